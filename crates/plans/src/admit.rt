@@ -1,19 +1,16 @@
+//! The rules of a plan, checked in their order.
 ghost use mathlib.Core.Path.{_≡_};
 ghost use Prim.Native.Nat.{ℕ, _^_, _<_, _≤_};
 ghost use lib.ListN.{length};
 ghost use Rattle.plans.specs.Admission.{admission, stepAnswer};
 ghost use Rattle.plans.specs.Chain.{valueAt};
+use crate::limits::MOST_STEPS;
+use crate::limits::TOP_EXPONENT;
 use crate::step::Step;
 use refusals::Refusal;
 
-// The largest exponent.
-pub const TOP_EXPONENT: u64 = 0x7fff_ffff_ffff_ffff;
-
-// The most steps that a plan has.
-pub const MOST_STEPS: usize = 128;
-
 // The value a_i of the steps, a_0 being 1.
-pub fn value_at(steps: &[Step], i: usize) -> u64
+fn value_at(steps: &[Step], i: usize) -> u64
     requires { ⌜ i ≤ length (now steps) ⌝ }
     ensures { λ r. ⌜ r ≡ valueAt (now (steps .entry)) i ⌝ }
 {
@@ -48,7 +45,7 @@ fn check_step(n: u64, steps: &[Step], i: usize) -> Result<(), Refusal>
 }
 
 // Whether the steps are an ascending addition chain for n.
-pub fn check_all(n: u64, steps: &[Step]) -> Result<(), Refusal>
+pub(crate) fn check_all(n: u64, steps: &[Step]) -> Result<(), Refusal>
     ensures { λ r. ⌜ r ≡ admission n (now (steps .entry)) ⌝ }
 {
     if n == 0 || n > TOP_EXPONENT {
