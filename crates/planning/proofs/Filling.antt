@@ -22,7 +22,8 @@ pub filled-more : (plan was now : List Step) (len : ℕ) (x : Step) (rest : List
 filled-more plan was now len x rest h f =
     record {
       front = rw (take-more-set now len x h, append-assoc (take len now) (x ∷ []) rest) (f .front);
-      back = rw (drop-set-lt (len + 1) now len x (omega arith)) (sym (drop-drop 1 len now) ∙ ap (drop 1) (f .back) ∙ drop-drop 1 len was) }
+      back = rw (drop-set-lt (len + 1) now len x (omega arith)) (sym (drop-drop 1 len now) ∙ ap (drop 1) (f .back) ∙ drop-drop 1 len was);
+    }
 
 -- where nothing is left, the table holds the plan and then what it held
 pub filled-all : (plan was now : List Step) (len : ℕ) → len ≤ length now → Filled plan was now len [] → (len ≡ length plan) × (now ≡ plan ++ drop (length plan) was) × (take len now ≡ plan)

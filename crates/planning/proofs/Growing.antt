@@ -38,7 +38,8 @@ fits-under {n} {i} {x} a b e f =
       earlier = l;
       sum = omega (arith, f .sum, e (x .j) l, e (x .k) (omega arith));
       rises = omega (arith, f .rises, e i (omega arith));
-      within = f .within }
+      within = f .within;
+    }
 
 pub last-push : (p : List Step) (x : Step) → lastValue (p ++ x ∷ []) ≡ x .value
 last-push p x =
@@ -51,13 +52,13 @@ pub grows-push : (n : ℕ) (p : List Step) (x : Step) → Grows n p → Fits n (
 grows-push n p x g f i h =
     ⊎-elim
     (λ (l : i < length p).
-      subst (Fits n (valueAt (p ++ x ∷ [])) i) (sym (List·getD-append p (x ∷ []) noStep i l))
-      (fits-under (valueAt p) (valueAt (p ++ x ∷ [])) (λ m k. sym (value-append p (x ∷ []) m (omega arith))) (g i l)))
+    subst (Fits n (valueAt (p ++ x ∷ [])) i) (sym (List·getD-append p (x ∷ []) noStep i l))
+    (fits-under (valueAt p) (valueAt (p ++ x ∷ [])) (λ m k. sym (value-append p (x ∷ []) m (omega arith))) (g i l)))
     (λ (l : length p ≤ i).
-      let e : length p ≡ i = omega (arith, length-push p x) in
-      subst (λ (y : ℕ). Fits n (valueAt (p ++ x ∷ [])) y (stepAt (p ++ x ∷ []) y)) e
-      (subst (Fits n (valueAt (p ++ x ∷ [])) (length p)) (sym (getD-append-seam p x [] noStep))
-        (fits-under (valueAt p) (valueAt (p ++ x ∷ [])) (λ m k. sym (value-append p (x ∷ []) m k)) f)))
+    let e : length p ≡ i = omega (arith, length-push p x) in
+    subst (λ (y : ℕ). Fits n (valueAt (p ++ x ∷ [])) y (stepAt (p ++ x ∷ []) y)) e
+    (subst (Fits n (valueAt (p ++ x ∷ [])) (length p)) (sym (getD-append-seam p x [] noStep))
+    (fits-under (valueAt p) (valueAt (p ++ x ∷ [])) (λ m k. sym (value-append p (x ∷ []) m k)) f)))
     (cases-lt i (length p))
 
 pub chain-from-grows : (n : ℕ) (s : List Step) → 1 ≤ n → n < 2 ^ 63 → length s ≤ 128 → Grows n s → lastValue s ≡ n → Chain n s
@@ -69,4 +70,5 @@ chain-from-grows n s a b d g e =
       cites = λ i h. (g i h .ordered, g i h .earlier);
       sums = λ i h. g i h .sum;
       rises = λ i h. (g i h .rises, g i h .within);
-      reaches = e }
+      reaches = e;
+    }

@@ -18,9 +18,9 @@ under-is (suc m) t n h low high =
     ⊎-elim
     (λ (e : t ≡ suc m). let b : leb (2 ^ suc m) n ≡ true = le-leb _ _ (subst (λ (x : ℕ). 2 ^ x ≤ n) e low) in rw b (sym e))
     (λ (e : t ≡ suc m → ⊥).
-      let q : 2 ^ suc t ≤ 2 ^ suc m = pow-mono (omega arith) in
-      let b : leb (2 ^ suc m) n ≡ false = lt-leb _ _ (omega (arith, pow-suc 2 t)) in
-      rw b (under-is m t n (omega arith) low high))
+    let q : 2 ^ suc t ≤ 2 ^ suc m = pow-mono (omega arith) in
+    let b : leb (2 ^ suc m) n ≡ false = lt-leb _ _ (omega (arith, pow-suc 2 t)) in
+    rw b (under-is m t n (omega arith) low high))
     (cases-eq t (suc m))
 
 -- the place t with 2 ^ t ≤ n < 2 ^ (t + 1) is the top
@@ -51,9 +51,9 @@ under-max zero t n h l = omega arith
 under-max (suc m) t n h l =
     cond-both (leb (2 ^ suc m) n) (suc m) (topUnder m n) (λ (x : ℕ). t ≤ x) (λ e. h)
     (λ e.
-      let f = leb-false _ _ e in
-      let ne : t ≡ suc m → ⊥ = λ q. let g : 2 ^ suc m ≤ n = subst (λ (x : ℕ). 2 ^ x ≤ n) q l in omega arith in
-      under-max m t n (omega arith) l)
+    let f = leb-false _ _ e in
+    let ne : t ≡ suc m → ⊥ = λ q. let g : 2 ^ suc m ≤ n = subst (λ (x : ℕ). 2 ^ x ≤ n) q l in omega arith in
+    under-max m t n (omega arith) l)
 
 pub top-low : (n : ℕ) → 1 ≤ n → 2 ^ top n ≤ n
 unfolding top

@@ -39,7 +39,8 @@ push n p at j k v g o e s r w =
     record {
       grown = record { count = a; grows = grows-push n p x (g .grows) f };
       here = ap (valueAt (p ++ x ∷ [])) a ∙ last-push p x;
-      kept = λ i h. value-append p (x ∷ []) i (omega arith) }
+      kept = λ i h. value-append p (x ∷ []) i (omega arith);
+    }
 
 pub ends-push : (n : ℕ) (p : List Step) (x : Step) (rest : List Step) → Ends n ((p ++ x ∷ []) ++ rest) → Ends n (p ++ x ∷ rest)
 ends-push n p x rest e = subst (Ends n) (append-assoc p (x ∷ []) rest) e
