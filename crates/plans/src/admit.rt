@@ -3,7 +3,10 @@ ghost use mathlib.Core.Path.{_≡_};
 ghost use Prim.Native.Nat.{ℕ, _^_, _<_, _≤_};
 ghost use lib.ListN.{length};
 ghost use Rattle.plans.specs.Admission.{admission, stepAnswer};
-ghost use Rattle.plans.specs.Chain.{valueAt};
+ghost use Rattle.plans.specs.Chain.{Chain, valueAt};
+ghost use Rattle.std.specs.Orderings.{Decides};
+ghost use Rattle.std.specs.Results.{isOk};
+ghost use Rattle.std.specs.Vec.{made};
 use crate::limits::MOST_STEPS;
 use crate::limits::TOP_EXPONENT;
 use crate::step::Step;
@@ -44,8 +47,8 @@ fn check_step(n: u64, steps: &[Step], i: usize) -> Result<(), Refusal>
     Ok(())
 }
 
-// Whether the steps are an ascending addition chain for n.
-pub(crate) fn check_all(n: u64, steps: &[Step]) -> Result<(), Refusal>
+// The rules in their order: the exponent, the length, each step, and that n is reached.
+fn check_rules(n: u64, steps: &[Step]) -> Result<(), Refusal>
     ensures { λ r. ⌜ r ≡ admission n (now (steps .entry)) ⌝ }
 {
     if n == 0 || n > TOP_EXPONENT {
@@ -61,4 +64,13 @@ pub(crate) fn check_all(n: u64, steps: &[Step]) -> Result<(), Refusal>
         return Err(Refusal::NotReached(steps.len() as u64));
     }
     Ok(())
+}
+
+// Whether the steps are an ascending addition chain for n.
+pub(crate) fn check_chain(n: u64, steps: &[Step]) -> Result<(), Refusal>
+    ensures answer { λ r. ⌜ r ≡ admission n (now (steps .entry)) ⌝ }
+    ensures exactly { λ r. ⌜ Decides (isOk r) (Chain n (now (steps .entry))) ⌝ }
+    ensures chain { λ r. ⌜ made r (λ _. Chain n (now (steps .entry))) ⌝ }
+{
+    check_rules(n, steps)
 }
