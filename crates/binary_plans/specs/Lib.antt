@@ -1,0 +1,2 @@
+pub mod LeftToRight
+pub mod RightToLeft

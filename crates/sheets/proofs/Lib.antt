@@ -1,0 +1,4 @@
+pub mod Lines
+pub mod Readings
+pub mod Writes
+pub mod Reread

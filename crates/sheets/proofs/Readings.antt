@@ -1,0 +1,71 @@
+-- The lines of a text, as they are read.
+use mathlib.Core.Path.{_≡_, refl, sym, _∙_, ap, subst}
+use mathlib.Core.Bool.{Bool, true, false, cond}
+use mathlib.Core.List.{List, [], _∷_, _++_}
+use Prim.Native.Nat.{ℕ, zero, suc, _+_, _*_, _-_, _/_, _%_, _^_, _≤_, _<_}
+use native.Mathlib.Omega.{arith}
+use lib.Dec.{eqb, ltb, leb, lit<, lit≤}
+use lib.ListN.{length, getD, take, drop, set}
+use Rattle.std.specs.declared.option.Option.{Option}
+use Rattle.std.specs.declared.option.Option.the-variants.{None, Some}
+use Rattle.std.specs.declared.result.Result.{Result}
+use Rattle.std.specs.declared.result.Result.the-variants.{Ok, Err}
+use Rattle.refusals.specs.declared.refusal.Refusal.{Refusal}
+use Rattle.refusals.specs.declared.refusal.Refusal.the-variants.{TooLong, SheetLine, Field, StepNumber, TableShort}
+use Rattle.fields.specs.Field.{field, fieldValue}
+use Rattle.fields.proofs.Inverse.{length-field, digits-within, read-field, write-field}
+use Rattle.plans.specs.declared.step.Step.{Step}
+use Rattle.plans.specs.Chain.{noStep, stepAt, Chain}
+use Rattle.sheets.specs.declared.fault.Fault.{Fault}
+use Rattle.sheets.specs.Lines.{line, lineBytes, newline, Writable, start, width, cell}
+use Rattle.sheets.specs.Sheets.{sheet, sheetFrom, sheetBytes, AllWritable, wrote, written}
+use Rattle.sheets.specs.Reading.{fault, numberIn, andThen, numbers, numbered, readLine, lineAt, lineIn, Found, orNext, firstFault, stepOf, stepsFrom, textLines, roomFor, unlessFound, readLines, readSheet}
+use Rattle.std.proofs.shelf.Lists.{drop-more, drop-all, set-at, append-assoc}
+
+fault-step : (n i : ℕ) (t : List ℕ) → i < n → firstFault (n - i) i t ≡ orNext i (lineIn i t) (firstFault (n - (i + 1)) (i + 1) t)
+fault-step n i t h = ap (λ k. firstFault k i t) {x = n - i} {y = suc (n - (i + 1))} (omega arith)
+
+pub fault-here : (n i : ℕ) (t : List ℕ) (f : Fault) → i < n → Err f ≡ lineIn i t → firstFault (n - i) i t ≡ Some (record { before = i; fault = f })
+fault-here n i t f h e = fault-step n i t h ∙ ap (λ r. orNext i r (firstFault (n - (i + 1)) (i + 1) t)) (sym e)
+
+is-ok : (i : ℕ) (r : Result Step Fault) (next : Option Found) → ((f : Fault) → r ≡ Err f → ⊥) → orNext i r next ≡ next
+is-ok i (Ok s) next no-fault = refl
+is-ok i (Err f) next no-fault = elim (no-fault f refl) [ ]
+
+pub fault-next : (n i : ℕ) (t : List ℕ) → i < n → ((f : Fault) → lineIn i t ≡ Err f → ⊥) → firstFault (n - i) i t ≡ firstFault (n - (i + 1)) (i + 1) t
+fault-next n i t h e = fault-step n i t h ∙ is-ok i (lineIn i t) (firstFault (n - (i + 1)) (i + 1) t) e
+
+-- ---- the steps
+pub length-steps : (n i : ℕ) (t : List ℕ) → length (stepsFrom n i t) ≡ n
+length-steps zero i t = refl
+length-steps (suc n) i t = ap suc (length-steps n (i + 1) t)
+
+steps-more : (n i : ℕ) (t : List ℕ) → stepsFrom (suc n) i t ≡ stepsFrom n i t ++ (stepOf (lineIn (i + n) t) ∷ [])
+steps-more zero i t = ap (λ k. stepOf (lineIn k t) ∷ []) {x = i} {y = i + 0} (omega arith)
+steps-more (suc n) i t =
+    ap (λ xs. stepOf (lineIn i t) ∷ xs) (steps-more n (i + 1) t ∙ ap (λ k. stepsFrom n (i + 1) t ++ (stepOf (lineIn k t) ∷ [])) {x = i + 1 + n} {y = i + suc n} (omega arith))
+
+pub fill-more : (i : ℕ) (t : List ℕ) (table : List Step) (s : Step) → i < length table → Ok s ≡ lineIn i t → set (stepsFrom i 0 t ++ drop i table) i s ≡ stepsFrom (i + 1) 0 t ++ drop (i + 1) table
+fill-more i t table s h e =
+    ap (λ xs. set (stepsFrom i 0 t ++ xs) i s) (drop-more table i s h)
+    ∙ set-at (stepsFrom i 0 t) (getD table i s) (drop (i + 1) table) s i (length-steps i 0 t)
+    ∙ sym (append-assoc (stepsFrom i 0 t) (s ∷ []) (drop (i + 1) table))
+    ∙ ap (λ xs. xs ++ drop (i + 1) table)
+    (ap (λ r. stepsFrom i 0 t ++ (stepOf r ∷ [])) e
+    ∙ ap (λ k. stepsFrom i 0 t ++ (stepOf (lineIn k t) ∷ [])) {x = i} {y = 0 + i} (omega arith)
+    ∙ sym (steps-more i 0 t)
+    ∙ ap (λ k. stepsFrom k 0 t) {x = suc i} {y = i + 1} (omega arith))
+
+next-none : (i : ℕ) (r : Result Step Fault) (next : Option Found) → orNext i r next ≡ None → ((f : Fault) → r ≡ Err f → ⊥) × (next ≡ None)
+next-none i (Ok s) next e = ((λ f g. let z : _≡_ {A = ℕ} 0 1 = cc in omega arith), e)
+next-none i (Err x) next e = let z : _≡_ {A = ℕ} 0 1 = cc in (let f : ⊥ = omega arith in elim f [ ], let f : ⊥ = omega arith in elim f [ ])
+
+-- below the end of lines with no fault stands none
+pub no-fault-from : (n i k : ℕ) (t : List ℕ) → firstFault n i t ≡ None → k < n → (f : Fault) → lineIn (i + k) t ≡ Err f → ⊥
+no-fault-from zero i k t e h f g = omega arith
+no-fault-from (suc n) i zero t e h f g = next-none i (lineIn i t) (firstFault n (i + 1) t) e .0 f (ap (λ m. lineIn m t) {x = i} {y = i + 0} (omega arith) ∙ g)
+no-fault-from (suc n) i (suc k) t e h f g =
+    no-fault-from n (i + 1) k t (next-none i (lineIn i t) (firstFault n (i + 1) t) e .1) (omega arith) f (ap (λ m. lineIn m t) {x = i + 1 + k} {y = i + suc k} (omega arith) ∙ g)
+
+pub no-fault : (n i : ℕ) (t : List ℕ) → firstFault n 0 t ≡ None → i < n → (f : Fault) → lineIn i t ≡ Err f → ⊥
+no-fault n i t e h f g = no-fault-from n 0 i t e h f (ap (λ m. lineIn m t) {x = 0 + i} {y = i} (omega arith) ∙ g)

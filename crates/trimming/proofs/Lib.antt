@@ -1,0 +1,5 @@
+pub mod Needing
+pub mod Ranks
+pub mod Marks
+pub mod Kept
+pub mod Again
