@@ -4,8 +4,8 @@ ghost use Prim.Native.Nat.{_≤_};
 ghost use lib.ListN.{length, take};
 ghost use Rattle.std.specs.Vec.{made};
 ghost use Rattle.plans.specs.Chain.{Chain};
-ghost use Rattle.planning.specs.Planning.{planned, written};
-ghost use Rattle.methods.specs.Methods.{methodOf, planOf, allows};
+ghost use Rattle.planning.specs.Planning.{lengthOr, written};
+ghost use Rattle.methods.specs.Methods.{methodOf, planOf, requestBy, ParentsBy};
 use binary_plans::left_to_right;
 use binary_plans::right_to_left;
 use digit_plans::MOST_WIDTH;
@@ -13,6 +13,7 @@ use digit_plans::digits;
 use factor_plans::factor;
 use plans::Step;
 use refusals::Refusal;
+use tree_plans::tree;
 
 /// A planning method.
 #[derive(Clone, Copy)]
@@ -25,6 +26,8 @@ pub enum Method {
     Factor,
     /// By digits of so many bits.
     Digits(u32),
+    /// By the path in the power tree.
+    Tree,
 }
 
 impl Method {
@@ -45,14 +48,16 @@ impl Method {
             1 => Some(Method::LeftToRight),
             2 => Some(Method::RightToLeft),
             3 => Some(Method::Factor),
+            5 => Some(Method::Tree),
             _ => None,
         }
     }
 
-    /// Writes the method's plan of n into the first places of the table, and answers its length.
-    pub fn plan(self, n: u64, table: &mut [Step]) -> Result<usize, Refusal>
-        ensures answer { λ r. ⌜ r ≡ planned (allows self n) n (planOf self n) (length (now (table .entry))) ⌝ }
+    /// Writes the method's plan of n into the first places of the table, and answers its length. Only the tree fills the table of parents.
+    pub fn plan(self, n: u64, table: &mut [Step], parents: &mut [u16]) -> Result<usize, Refusal>
+        ensures answer { λ r. ⌜ r ≡ lengthOr (requestBy self n (length (now (table .entry))) (length (now (parents .entry)))) (planOf self n) ⌝ }
         ensures after { λ r. ⌜ now (table .exit) ≡ written r (planOf self n) (now (table .entry)) ⌝ }
+        ensures parents { λ r. ⌜ ParentsBy self r (now (parents .entry)) (now (parents .exit)) ⌝ }
         ensures within { λ r. ⌜ made r (λ l. l ≤ 128) ⌝ }
         ensures chain { λ r. ⌜ made r (λ l. Chain n (take l (now (table .exit)))) ⌝ }
     {
@@ -61,6 +66,7 @@ impl Method {
             Method::RightToLeft => right_to_left(n, table),
             Method::Factor => factor(n, table),
             Method::Digits(width) => digits(n, width, table),
+            Method::Tree => tree(n, table, parents),
         }
     }
 }

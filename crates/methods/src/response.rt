@@ -15,6 +15,7 @@ use planning::check_request;
 use plans::MOST_STEPS;
 use plans::Plan;
 use plans::Step;
+use power_tree::PARENTS;
 use refusals::Refusal;
 use sheets::write_sheet;
 
@@ -22,15 +23,20 @@ use sheets::write_sheet;
 pub const MOST_BYTES: usize = 4096;
 
 // Plans what is asked; the first places of the table then hold the plan, and their number is the answer.
-fn plan_request(request: PlanRequest, table: &mut [Step]) -> Result<usize, Refusal>
+fn plan_request(
+    request: PlanRequest,
+    table: &mut [Step],
+    parents: &mut [u16],
+) -> Result<usize, Refusal>
     requires places { ⌜ 128 ≤ length (now table) ⌝ }
+    requires parents { ⌜ 1025 ≤ length (now parents) ⌝ }
     ensures answer { λ r. ⌜ r ≡ counted (planFor request) ⌝ }
     ensures front { λ r. ⌜ made r (λ l. take l (now (table .exit)) ≡ stepsOr (planFor request)) ⌝ }
     ensures within { λ r. ⌜ made r (λ l. l ≤ 128) ⌝ }
     ensures chain { λ r. ⌜ made r (λ l. Chain (request .exponent) (take l (now (table .exit)))) ⌝ }
 {
     match Method::numbered(request.method, request.width) {
-        Some(method) => method.plan(request.exponent, table),
+        Some(method) => method.plan(request.exponent, table, parents),
         None => {
             check_request(false, request.exponent, table.len())?;
             Ok(0)
@@ -64,7 +70,8 @@ fn write_plan(line: &[u8], out: &mut [u8]) -> Result<usize, Refusal>
         k: 0,
         value: 0,
     }; MOST_STEPS];
-    let length = plan_request(request, &mut table)?;
+    let mut parents = [0u16; PARENTS];
+    let length = plan_request(request, &mut table, &mut parents)?;
     let mut plan = Plan::one();
     plan.admit(request.exponent, &table[0..length])?;
     write_sheet(&plan, out)

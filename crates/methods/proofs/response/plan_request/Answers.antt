@@ -8,7 +8,7 @@ pub returns-in-Some : need.returns-in-Some
 returns-in-Some c =
     let q = c .args .request in
     let m = c .in-Some .method in
-    let e = c .plan .ensures .answer ∙ planned-tested (allows m (q .exponent)) (q .exponent) _ (planOf m (q .exponent)) (c .pre .places) in
+    let e = c .plan .ensures .answer ∙ planned-tested m (q .exponent) _ _ (planOf m (q .exponent)) (c .pre .places) (c .pre .parents) in
     let p = plan-by q m (c .in-Some .ensures tt .value) in
     rw p
     (record {
