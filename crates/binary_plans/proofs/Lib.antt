@@ -1,3 +1,3 @@
-pub mod Halves
+pub mod BothPlans
 pub mod LeftPlans
 pub mod RightPlans

@@ -1,91 +1,117 @@
--- The loop over the digits.
+-- The loop over the digits, and the table after it. Assumes nothing.
 use mathlib.Core.Path.{_≡_, refl, sym, ap, subst, _∙_}
-use mathlib.Core.List.{List, [], _∷_, _++_, append-nil}
+use mathlib.Core.List.{List, [], _∷_, _++_}
 use Prim.Native.Nat.{ℕ, zero, suc, _+_, _-_, _*_, _/_, _%_, _^_, _<_, _≤_}
-use native.Mathlib.Nat.{mul-suc, mul-one, mul-le-mul-left, suc-mul, mul-comm, add-mul, one-mul, zero-mul}
+use native.Mathlib.Nat.{mul-suc, mul-one, mul-le-mul-left, suc-mul, add-zero, zero-add}
 use native.Mathlib.Omega.{arith}
-use lib.ListN.{length, set, take, drop, length-append}
-use lib.Pow.{pow-mono, pow-pos, shr-le}
-use lib.Seq.{sets, length-sets}
-use Rattle.std.proofs.shelf.Bits.{mod-below}
+use lib.ListN.{length, set, drop, length-append}
+use lib.Pow.{pow-pos, shr-le}
+use lib.Seq.{sets, sets-eq, length-sets}
+use Rattle.std.proofs.shelf.Lists.{length-push}
 use Rattle.plans.specs.declared.step.Step.{Step}
 use Rattle.planning.specs.Bits.{top}
 use Rattle.planning.specs.Planning.{step}
-use Rattle.digit_plans.specs.Digits.{countFrom, doubles, digit, digitsFrom, lower, leading, digitsPlan}
-use Rattle.planning.proofs.Filling.{Filled, filled-none, filled-many, filled-more, filled-all, filled-again, filled-since}
-use Rattle.digit_plans.proofs.DigitPlans.{digits-end, digits-none, digits-some, value-digit, length-at-most, count-length, plan-low, plan-high, Top, the-top}
-use Rattle.planning.proofs.Powers.{top-low, top-below}
+use Rattle.planning.proofs.Powers.{top-low, top-below, top-is}
+use Rattle.digit_plans.specs.Digits.{countFrom, doubles, digit, oneDigit, digitsFrom, lower, leading, digitsPlan}
+use Rattle.digit_plans.proofs.Counting.{count-length}
+use Rattle.digit_plans.proofs.DigitPlans.{one-none, one-some, digits-end, digits-here, value-digit, digit-below, one-at-most, plan-low, plan-high, the-top}
 
-abbrev pub Turning : ℕ → ℕ → List Step → ℕ → List Step → ℕ → ℕ → ℕ → Type 0
-Turning k n was place t len from v =
-    Filled (digitsPlan k n) was t len (digitsFrom k n place len from v)
-    × (len + (k + 1) * place ≤ 124)
-    × (from ≤ len)
-    × (1 ≤ v)
-    × (v ≡ n / 2 ^ (place * k))
-    × (place * k ≤ 62)
+-- steps that are written in two parts, and from the front
+pub sets-append : (t : List Step) (at : ℕ) (xs ys : List Step) → sets t at (xs ++ ys) ≡ sets (sets t at xs) (at + length xs) ys
+sets-append t at [] ys = ap (λ (x : ℕ). sets t x ys) (sym (add-zero at))
+sets-append t at (x ∷ xs) ys =
+    let e : suc at + length xs ≡ at + suc (length xs) = omega arith in
+    sets-append (set t at x) (suc at) xs ys ∙ ap (λ (k : ℕ). sets (sets (set t at x) (suc at) xs) k ys) e
 
-module _ (k n : ℕ) (was : List Step) (place : ℕ) (t : List Step) (len from v : ℕ) (more : 0 < place) (long : 128 ≤ length t) (g : Turning k n was place t len from v) where
-  is-suc : place ≡ suc (place - 1)
-  is-suc = omega arith
+pub sets-front : (t xs : List Step) → length xs ≤ length t → sets t 0 xs ≡ xs ++ drop (length xs) t
+sets-front t xs h = sets-eq xs t 0 (omega arith) ∙ ap (λ (k : ℕ). xs ++ drop k t) (zero-add (length xs))
 
-  pub room-turn : len + (k + 1) + (k + 1) * (place - 1) ≤ 124
-  room-turn = let e : (k + 1) * place ≡ (k + 1) * (place - 1) + (k + 1) = ap (λ (x : ℕ). (k + 1) * x) is-suc ∙ mul-suc (k + 1) (place - 1) in omega arith
+-- what the steps for one digit leave, after the doublings: nothing more where the digit is 0, and else its addition
+module _ (k e at from v : ℕ) (was : List Step) {t : List Step} {len : ℕ} (count : len ≡ at + length (doubles (2 ^ k) k at from v)) (table : t ≡ sets was at (doubles (2 ^ k) k at from v)) where
+  pub digit-none : e ≡ 0 → (len ≡ at + length (oneDigit k e at from v)) × (t ≡ sets was at (oneDigit k e at from v))
+  digit-none z = let o = one-none k e at from v z in (omega (arith, ap length o), table ∙ sym (ap (sets was at) o))
 
-  pub shift-turn : (place - 1) * k ≤ 62
-  shift-turn = let e : place * k ≡ (place - 1) * k + k = ap (λ (x : ℕ). x * k) is-suc ∙ suc-mul (place - 1) k in omega arith
-
-  pub value-turn : n / 2 ^ ((place - 1) * k) ≡ v * 2 ^ k + digit k n (place - 1)
-  value-turn = value-digit k n (place - 1) ∙ ap (λ (x : ℕ). x * 2 ^ k + digit k n (place - 1)) (ap (λ (x : ℕ). n / 2 ^ (x * k)) (sym is-suc) ∙ sym (g .4))
-
-  pub value-within : v * 2 ^ k + digit k n (place - 1) ≤ n
-  value-within = omega (arith, value-turn, shr-le n ((place - 1) * k))
-
-  abbrev steps : List Step
-  steps = doubles (2 ^ k) k len from v
-
-  at-most : length steps ≤ k
-  at-most = length-at-most (2 ^ k) k len from v
-
-  after-doubling : (rest : List Step) → digitsFrom k n (suc (place - 1)) len from v ≡ steps ++ rest → Filled (digitsPlan k n) was (sets t len steps) (len + length steps) rest
-  after-doubling rest e =
-      filled-many (digitsPlan k n) was t len steps rest (omega (arith, room-turn, at-most))
-      (subst (Filled (digitsPlan k n) was t len) (ap (λ (x : ℕ). digitsFrom k n x len from v) is-suc ∙ e) (g .0))
-
-  pub turn-none : (t1 : List Step) (len1 w : ℕ) → t1 ≡ sets t len steps → len1 ≡ len + length steps → w ≡ v * 2 ^ k → digit k n (place - 1) ≡ 0 → Turning k n was (place - 1) t1 len1 len1 w
-  turn-none t1 len1 w et el ew z =
-      let r = room-turn in
-      let a = at-most in
-      rw (et, el, ew) (
-        after-doubling (digitsFrom k n (place - 1) (len + length steps) (len + length steps) (v * 2 ^ k)) (digits-none k n (place - 1) len from v (len + length steps) refl z),
-        omega arith,
-        omega arith,
-        (let q : v * 1 ≤ v * 2 ^ k = mul-le-mul-left v (pow-pos k) in omega (arith, mul-one v)),
-        omega (arith, value-turn),
-        shift-turn,
+  pub digit-some : (e ≡ 0 → ⊥) → (w : ℕ) → w ≡ v * 2 ^ k + e → (len + 1 ≡ at + length (oneDigit k e at from v)) × (set t len (step len (e - 1) w) ≡ sets was at (oneDigit k e at from v))
+  digit-some z w ew =
+      let ds : List Step = doubles (2 ^ k) k at from v in
+      let x : Step = step len (e - 1) w in
+      let o : oneDigit k e at from v ≡ ds ++ x ∷ [] = one-some k e at from v z ∙ rw (count, ew) refl in (
+        omega (arith, ap length o, length-push ds x),
+        ap (λ (y : List Step). set y len x) table ∙ ap (λ (y : ℕ). set (sets was at ds) y x) count ∙ sym (sets-append was at ds (x ∷ [])) ∙ sym (ap (sets was at) o),
       )
 
-  pub turn-some : (t1 : List Step) (len1 w e : ℕ) → t1 ≡ sets t len steps → len1 ≡ len + length steps → w ≡ v * 2 ^ k → e ≡ digit k n (place - 1) → (e ≡ 0 → ⊥)
-      → Turning k n was (place - 1) (set t1 len1 (step len1 (e - 1) (w + e))) (len1 + 1) (len1 + 1) (w + e)
-  turn-some t1 len1 w e et el ew ee z =
-      let r = room-turn in
-      let a = at-most in
-      let ne : digit k n (place - 1) ≡ 0 → ⊥ = λ q. z (ee ∙ q) in
-      let x : Step = step (len + length steps) (digit k n (place - 1) - 1) (v * 2 ^ k + digit k n (place - 1)) in
-      rw (et, el, ew, ee) (
-        filled-more (digitsPlan k n) was (sets t len steps) (len + length steps) x
-            (digitsFrom k n (place - 1) (len + length steps + 1) (len + length steps + 1) (v * 2 ^ k + digit k n (place - 1)))
-            (omega (arith, length-sets t len steps))
-            (after-doubling (x ∷ digitsFrom k n (place - 1) (len + length steps + 1) (len + length steps + 1) (v * 2 ^ k + digit k n (place - 1))) (digits-some k n (place - 1) len from v (len + length steps) refl ne)),
-        omega arith,
-        omega arith,
-        omega (arith, ne),
-        sym value-turn,
-        shift-turn,
-      )
+-- what the loop keeps, where the digits below `place` are left: with their steps the table is the whole one, and the steps are so many in all
+pub record Turning (k n place : ℕ) (t : List Step) (len from v : ℕ) (whole : List Step) (total : ℕ) : Type 0 where
+  pub table : sets t len (digitsFrom k n place len from v) ≡ whole
+  pub count : len + length (digitsFrom k n place len from v) ≡ total
+  pub long : 128 ≤ length t
+  pub room : len + (k + 1) * place ≤ 124
+  pub before : from ≤ len
+  pub positive : 1 ≤ v
+  pub value : v ≡ n / 2 ^ (place * k)
+  pub shift : place * k ≤ 62
+
+-- a turn, where the number of digits goes by another name
+digits-by : (k n m p at from v at1 : ℕ) → m ≡ 2 ^ k → at1 ≡ at + length (oneDigit k (n / 2 ^ (p * k) % m) at from v) → digitsFrom k n (suc p) at from v ≡ oneDigit k (n / 2 ^ (p * k) % m) at from v ++ digitsFrom k n p at1 at1 (v * m + n / 2 ^ (p * k) % m)
+digits-by k n m p at from v at1 is =
+    subst (λ (x : ℕ). at1 ≡ at + length (oneDigit k (n / 2 ^ (p * k) % x) at from v) → digitsFrom k n (suc p) at from v ≡ oneDigit k (n / 2 ^ (p * k) % x) at from v ++ digitsFrom k n p at1 at1 (v * x + n / 2 ^ (p * k) % x))
+    (sym is) (digits-here k n p at from v at1)
+
+-- what a turn can count on, e being its digit
+pub record Turn (k n len v e : ℕ) : Type 0 where
+  pub digit : e < 2 ^ k
+  pub within : v * 2 ^ k + e ≤ n
+  pub room : len + k < 124
+
+module _ {k n m place : ℕ} {t : List Step} {len from v : ℕ} {whole : List Step} {total : ℕ} (is : m ≡ 2 ^ k) (more : 0 < place) (g : Turning k n place t len from v whole total) where
+  abbrev here : ℕ
+  here = n / 2 ^ ((place - 1) * k) % m
+
+  down : place ≡ suc (place - 1)
+  down = omega arith
+
+  digit-is : here ≡ digit k n (place - 1)
+  digit-is = ap (λ (x : ℕ). n / 2 ^ ((place - 1) * k) % x) is
+
+  value-is : n / 2 ^ ((place - 1) * k) ≡ v * 2 ^ k + here
+  value-is =
+      value-digit k n (place - 1)
+      ∙ ap (λ (x : ℕ). x * 2 ^ k + digit k n (place - 1)) (ap (λ (x : ℕ). n / 2 ^ (x * k)) (sym down) ∙ sym (g .value))
+      ∙ ap (λ (x : ℕ). v * 2 ^ k + x) (sym digit-is)
+
+  room-is : (k + 1) * place ≡ (k + 1) * (place - 1) + (k + 1)
+  room-is = ap (λ (x : ℕ). (k + 1) * x) down ∙ mul-suc (k + 1) (place - 1)
+
+  pub turn : Turn k n len v here
+  turn =
+      record {
+        digit = omega (arith, digit-is, digit-below k n (place - 1));
+        within = omega (arith, value-is, shr-le n ((place - 1) * k));
+        room = omega (arith, g .room, room-is);
+      }
+
+  pub turned : (t1 : List Step) (len1 : ℕ) → t1 ≡ sets t len (oneDigit k here len from v) → len1 ≡ len + length (oneDigit k here len from v) → Turning k n (place - 1) t1 len1 len1 (v * m + here) whole total
+  turned t1 len1 et el =
+      let one : List Step = oneDigit k here len from v in
+      let w : v * m + here ≡ v * 2 ^ k + here = ap (λ (x : ℕ). v * x + here) is in
+      let rest : List Step = digitsFrom k n (place - 1) len1 len1 (v * m + here) in
+      let e : digitsFrom k n place len from v ≡ one ++ rest = ap (λ (x : ℕ). digitsFrom k n x len from v) down ∙ digits-by k n m (place - 1) len from v len1 is el in
+      let a : length one ≤ k + 1 = one-at-most k here len from v in
+      let b : v * 1 ≤ v * 2 ^ k = mul-le-mul-left v (pow-pos k) in
+      let c : place * k ≡ (place - 1) * k + k = ap (λ (x : ℕ). x * k) down ∙ suc-mul (place - 1) k in
+      record {
+        table = ap (λ (x : List Step). sets x len1 rest) et ∙ ap (λ (x : ℕ). sets (sets t len one) x rest) el ∙ sym (sets-append t len one rest) ∙ sym (ap (sets t len) e) ∙ g .table;
+        count = omega (arith, g .count, ap length e, length-append one rest);
+        long = omega (arith, g .long, ap length et, length-sets t len one);
+        room = omega (arith, g .room, room-is);
+        before = omega arith;
+        positive = omega (arith, g .positive, mul-one v);
+        value = w ∙ sym value-is;
+        shift = omega (arith, g .shift);
+      }
 
 -- the room for all the digits
-pub room-all : (k t : ℕ) → 1 ≤ k → k ≤ 5 → t * k ≤ 62 → 2 ^ k - 2 + (k + 1) * t ≤ 124
+room-all : (k t : ℕ) → 1 ≤ k → k ≤ 5 → t * k ≤ 62 → 2 ^ k - 2 + (k + 1) * t ≤ 124
 room-all zero t a b h = absurd (let no : ⊥ = omega arith in no)
 room-all (suc zero) t a b h = omega arith
 room-all (suc (suc zero)) t a b h = omega arith
@@ -94,57 +120,76 @@ room-all (suc (suc (suc (suc zero)))) t a b h = omega arith
 room-all (suc (suc (suc (suc (suc zero))))) t a b h = omega arith
 room-all (suc (suc (suc (suc (suc (suc k)))))) t a b h = absurd (let no : ⊥ = omega arith in no)
 
--- after the list 1, 2, up to m - 1 is written
-pub listed : (k n : ℕ) (was t : List Step) → 1 ≤ k → k ≤ 5 → 2 ^ k ≤ n → 128 ≤ length was → t ≡ sets was 0 (countFrom (2 ^ k - 2) 0) → Filled (digitsPlan k n) was t (2 ^ k - 2) (digitsFrom k n (lower k n) (2 ^ k - 2) (leading k n - 1) (leading k n))
-listed k n was t a b h d e =
-    let big : 2 ^ k ≤ 2 ^ 5 = pow-mono b in
-    let l = count-length (2 ^ k - 2) 0 in
-    let rest : List Step = digitsFrom k n (lower k n) (2 ^ k - 2) (leading k n - 1) (leading k n) in
-    let f0 = subst (Filled (digitsPlan k n) was was 0) (plan-high k n h) (filled-none (digitsPlan k n) was) in
-    let f1 = filled-many (digitsPlan k n) was was 0 (countFrom (2 ^ k - 2) 0) rest (omega arith) f0 in
-    let q : 0 + length (countFrom (2 ^ k - 2) 0) ≡ 2 ^ k - 2 = omega arith in
-    subst (λ (x : List Step). Filled (digitsPlan k n) was x (2 ^ k - 2) rest) (sym e)
-    (subst (λ (x : ℕ). Filled (digitsPlan k n) was (sets was 0 (countFrom (2 ^ k - 2) 0)) x rest) q f1)
+-- The loop begins after the list up to m - 1, at the top digit.
+pub record Listed (k n m : ℕ) (was t : List Step) (len place : ℕ) : Type 0 where
+  pub is : m ≡ 2 ^ k
+  pub above : m ≤ n
+  pub table : t ≡ sets was 0 (countFrom (m - 1 - 1) 0)
+  pub count : len ≡ m - 1 - 1
+  pub top : place ≡ lower k n
 
-pub turning-first : (k n : ℕ) (was t : List Step) (len low : ℕ) → 1 ≤ k → k ≤ 5 → 2 ^ k ≤ n → n < 2 ^ 63 → 128 ≤ length was → len ≡ 2 ^ k - 2 → low ≡ lower k n → t ≡ sets was 0 (countFrom (2 ^ k - 2) 0) → Turning k n t low t len (n / 2 ^ (low * k) - 1) (n / 2 ^ (low * k))
-turning-first k n was t len low a b h c d el ew e =
-    let y = the-top k n a h c in
-    let big : 2 ^ k ≤ 2 ^ 5 = pow-mono b in
-    let tb : top n ≤ 62 = top-below (top n) n (top-low n (omega (arith, pow-pos k))) c in
-    let rest : List Step = digitsFrom k n (lower k n) (2 ^ k - 2) (leading k n - 1) (leading k n) in
-    let within : lower k n * k ≤ 62 = omega arith in
-    let below = y .below in
-    rw (el, ew) (
-      filled-again (digitsPlan k n) was t (2 ^ k - 2) rest (listed k n was t a b h d e),
-      room-all k (lower k n) a b within,
-      omega arith,
-      y .positive,
-      refl,
-      within,
-    )
+pub listed : {k n m : ℕ} {was t : List Step} {len high : ℕ} → m ≡ 2 ^ k → m ≤ n → t ≡ sets was 0 (countFrom (m - 1 - 1) 0) → len ≡ m - 1 - 1 → high < 64 → 2 ^ high ≤ n → n < 2 * 2 ^ high → Listed k n m was t len (high / k)
+listed {k} {n} {m} {was} {t} {len} {high} is above table count b l h = record { is = is; above = above; table = table; count = count; top = ap (λ (x : ℕ). x / k) (sym (top-is high n b l h)) }
 
-pub written-all : (k n : ℕ) (was mid now : List Step) (len from v place : ℕ) → 1 ≤ k → k ≤ 5 → 2 ^ k ≤ n → 128 ≤ length was → mid ≡ sets was 0 (countFrom (2 ^ k - 2) 0) → length now ≡ length was → place ≡ 0 → Turning k n mid place now len from v
-    → (len ≡ length (digitsPlan k n)) × (now ≡ digitsPlan k n ++ drop (length (digitsPlan k n)) was) × (take len now ≡ digitsPlan k n)
-written-all k n was mid now len from v place a b h d e s z g =
-    let f : Filled (digitsPlan k n) mid now len [] = subst (Filled (digitsPlan k n) mid now len) (ap (λ (x : ℕ). digitsFrom k n x len from v) z ∙ digits-end k n len from v) (g .0) in
-    let l : len ≤ length now = omega (arith, g .1) in
-    let r = filled-all (digitsPlan k n) mid now len l f in
-    let c : List Step = countFrom (2 ^ k - 2) 0 in
-    let rest : List Step = digitsFrom k n (lower k n) (2 ^ k - 2) (leading k n - 1) (leading k n) in
-    let m : 2 ^ k - 2 ≤ len = omega (arith, r .0, ap length (plan-high k n h), length-append c rest, count-length (2 ^ k - 2) 0) in
-    filled-all (digitsPlan k n) was now len l (filled-since (digitsPlan k n) was mid now (2 ^ k - 2) len rest [] m (listed k n was mid a b h d e) f)
+module _ {k n m : ℕ} {was t : List Step} {len place : ℕ} (l : Listed k n m was t len place) where
+  abbrev from : ℕ → ℕ → List Step
+  from p at = digitsFrom k n p at (n / 2 ^ (p * k) - 1) (n / 2 ^ (p * k))
 
-pub counted-only : (k n : ℕ) (was now : List Step) (len : ℕ) → k ≤ 5 → n < 2 ^ k → 128 ≤ length was → len ≡ n - 1 → now ≡ sets was 0 (countFrom (n - 1) 0)
-    → (len ≡ length (digitsPlan k n)) × (now ≡ digitsPlan k n ++ drop (length (digitsPlan k n)) was) × (take len now ≡ digitsPlan k n)
-counted-only k n was now len b h d el e =
-    let big : 2 ^ k ≤ 2 ^ 5 = pow-mono b in
-    let c : List Step = countFrom (n - 1) 0 in
-    let l = count-length (n - 1) 0 in
-    let f0 = subst (Filled (digitsPlan k n) was was 0) (plan-low k n h ∙ sym (append-nil c)) (filled-none (digitsPlan k n) was) in
-    let f1 = filled-many (digitsPlan k n) was was 0 c [] (omega arith) f0 in
-    let q : 0 + length c ≡ len = omega arith in
-    let f2 = subst (λ (x : ℕ). Filled (digitsPlan k n) was (sets was 0 c) x []) q f1 in
-    filled-all (digitsPlan k n) was now len (omega (arith, ap length e, length-sets was 0 c)) (subst (λ (x : List Step). Filled (digitsPlan k n) was x len []) (sym e) f2)
+  above : 2 ^ k ≤ n
+  above = omega (arith, l .is, l .above)
 
-pub len-within : (k n : ℕ) (was : List Step) (place : ℕ) (t : List Step) (len from v : ℕ) → 0 < place → 128 ≤ length t → Turning k n was place t len from v → (r : ℕ) → r ≡ len + length (doubles (2 ^ k) k len from v) → r ≤ 123
-len-within k n was place t len from v h l g r e = omega (arith, room-turn k n was place t len from v h l g, length-at-most (2 ^ k) k len from v)
+  len-is : len ≡ 2 ^ k - 2
+  len-is = omega (arith, l .is, l .count)
+
+  list-is : t ≡ sets was 0 (countFrom len 0)
+  list-is = l .table ∙ ap (λ (x : ℕ). sets was 0 (countFrom x 0)) (sym (l .count))
+
+  plan-is : digitsPlan k n ≡ countFrom len 0 ++ from place len
+  plan-is =
+      plan-high k n above
+      ∙ ap (λ (x : ℕ). countFrom x 0 ++ from (lower k n) x) (sym len-is)
+      ∙ ap (λ (x : ℕ). countFrom len 0 ++ from x len) (sym (l .top))
+
+  -- the list and the steps of all the digits are the plan
+  pub listed-table : sets t len (from place len) ≡ sets was 0 (digitsPlan k n)
+  listed-table =
+      let e : len ≡ 0 + length (countFrom len 0) = omega (arith, count-length len 0) in
+      ap (λ (x : List Step). sets x len (from place len)) list-is
+      ∙ ap (λ (x : ℕ). sets (sets was 0 (countFrom len 0)) x (from place len)) e
+      ∙ sym (sets-append was 0 (countFrom len 0) (from place len))
+      ∙ ap (sets was 0) (sym plan-is)
+
+  pub listed-count : len + length (from place len) ≡ length (digitsPlan k n)
+  listed-count = omega (arith, ap length plan-is, length-append (countFrom len 0) (from place len), count-length len 0)
+
+  pub top-positive : 1 ≤ k → n < 2 ^ 63 → 1 ≤ n / 2 ^ (place * k)
+  top-positive a c = subst (λ (x : ℕ). 1 ≤ n / 2 ^ (x * k)) (sym (l .top)) (the-top k n a above c .positive)
+
+  pub turning-first : 1 ≤ k → k ≤ 5 → n < 2 ^ 63 → 128 ≤ length was → Turning k n place t len (n / 2 ^ (place * k) - 1) (n / 2 ^ (place * k)) (sets t len (from place len)) (len + length (from place len))
+  turning-first a b c d =
+      let y = the-top k n a above c in
+      let tb : top n ≤ 62 = top-below (top n) n (top-low n (omega (arith, above, pow-pos k))) c in
+      let p : place * k ≡ lower k n * k = ap (λ (x : ℕ). x * k) (l .top) in
+      let v : n / 2 ^ (place * k) ≡ leading k n = ap (λ (x : ℕ). n / 2 ^ x) p in
+      record {
+        table = refl;
+        count = refl;
+        long = omega (arith, ap length list-is, length-sets was 0 (countFrom len 0));
+        room = omega (arith, len-is, room-all k place a b (omega (arith, y .within)));
+        before = omega (arith, len-is, y .below);
+        positive = top-positive a c;
+        value = refl;
+        shift = omega (arith, y .within);
+      }
+
+-- after the last turn
+pub turning-last : {k n place : ℕ} {t : List Step} {len from v : ℕ} {whole : List Step} {total : ℕ} → place ≡ 0 → Turning k n place t len from v whole total → (t ≡ whole) × (len ≡ total)
+turning-last {k} {n} {place} {t} {len} {from} {v} z g =
+    let e : digitsFrom k n place len from v ≡ [] = ap (λ (x : ℕ). digitsFrom k n x len from v) z ∙ digits-end k n len from v in
+    (sym (ap (sets t len) e) ∙ g .table, omega (arith, g .count, ap length e))
+
+-- an exponent below m, whose plan is the list up to it
+pub counted-only : (k n : ℕ) (was : List Step) {t : List Step} {len : ℕ} → n < 2 ^ k → len ≡ n - 1 → t ≡ sets was 0 (countFrom (n - 1) 0) → (len ≡ length (digitsPlan k n)) × (t ≡ sets was 0 (digitsPlan k n))
+counted-only k n was {t} {len} h c e =
+    let p = plan-low k n h in
+    (omega (arith, ap length p, count-length (n - 1) 0), e ∙ sym (ap (sets was 0) p))

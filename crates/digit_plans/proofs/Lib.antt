@@ -1,3 +1,4 @@
-pub mod DigitSteps
+pub mod Counting
+pub mod Doubling
 pub mod DigitPlans
 pub mod DigitLoop

@@ -29,16 +29,20 @@ doubles m (suc i) at from v =
 abbrev pub digit : ℕ → ℕ → ℕ → ℕ
 digit k n p = n / 2 ^ (p * k) % 2 ^ k
 
--- the digit e added to the last value v unless it is 0, and then what comes after it, given the number of steps and the last value
-abbrev pub addDigit : ℕ → ℕ → ℕ → (ℕ → ℕ → List Step) → List Step
-addDigit e at v next = cond (eqb e 0) (next at v) (step at (e - 1) (v + e) ∷ next (at + 1) (v + e))
+-- the step that adds the digit e, a value of the list, to the last value v, unless it is 0
+abbrev pub addition : ℕ → ℕ → ℕ → List Step
+addition e at v = cond (eqb e 0) [] (step at (e - 1) (v + e) ∷ [])
 
--- the steps for the digits of n below place p, from the highest of them down: k doublings, and the digit added
+-- the steps for one digit e: k doublings, and the digit added
+unfoldable pub oneDigit : ℕ → ℕ → ℕ → ℕ → ℕ → List Step
+oneDigit k e at from v = doubles (2 ^ k) k at from v ++ addition e (at + length (doubles (2 ^ k) k at from v)) (v * 2 ^ k)
+
+-- the steps for the digits of n below place p, from the highest of them down, where v is the value number `from`; the value after each digit is the last one
 unfoldable pub digitsFrom : ℕ → ℕ → ℕ → ℕ → ℕ → ℕ → List Step
 digitsFrom k n zero at from v = []
 digitsFrom k n (suc p) at from v =
-    doubles (2 ^ k) k at from v
-    ++ addDigit (digit k n p) (at + length (doubles (2 ^ k) k at from v)) (v * 2 ^ k) (λ at1 w. digitsFrom k n p at1 at1 w)
+    oneDigit k (digit k n p) at from v
+    ++ (let at1 : ℕ = at + length (oneDigit k (digit k n p) at from v) in digitsFrom k n p at1 at1 (v * 2 ^ k + digit k n p))
 
 -- how many digits there are below the top one
 abbrev pub lower : ℕ → ℕ → ℕ

@@ -1,14 +1,14 @@
 //! The plan by digits.
 ghost use mathlib.Core.Path.{_≡_};
-ghost use mathlib.Core.List.{_++_};
 ghost use Prim.Native.Nat.{_^_, _≤_, _<_};
-ghost use lib.ListN.{length, take, drop};
+ghost use lib.ListN.{length, take};
+ghost use lib.Seq.{sets};
 ghost use Rattle.std.specs.Vec.{made};
 ghost use Rattle.plans.specs.Chain.{Chain};
 ghost use Rattle.planning.specs.Planning.{planned, written};
 ghost use Rattle.digit_plans.specs.Digits.{isWidth, digitsPlan, digitsLength};
-use crate::parts::count_up;
-use crate::parts::double_all;
+use crate::parts::write_digit;
+use crate::parts::write_list;
 use crate::widths::digit_count;
 use crate::widths::is_width;
 use planning::check_request;
@@ -16,7 +16,7 @@ use plans::Step;
 use refusals::Refusal;
 
 // Writes the plan. Answers how many steps it has.
-fn write_digits(n: u64, width: u32, table: &mut [Step]) -> usize
+fn write_plan(n: u64, width: u32, table: &mut [Step]) -> usize
     requires positive { ⌜ 1 ≤ n ⌝ }
     requires bounded { ⌜ n < 2 ^ 63 ⌝ }
     requires low { ⌜ 1 ≤ width ⌝ }
@@ -24,30 +24,20 @@ fn write_digits(n: u64, width: u32, table: &mut [Step]) -> usize
     requires places { ⌜ 128 ≤ length (now table) ⌝ }
     ensures count { λ r. ⌜ r ≡ length (digitsPlan width n) ⌝ }
     ensures within { λ r. ⌜ r ≤ 128 ⌝ }
-    ensures after { λ _. ⌜ now (table .exit) ≡ digitsPlan width n ++ drop (length (digitsPlan width n)) (now (table .entry)) ⌝ }
-    ensures front { λ r. ⌜ take r (now (table .exit)) ≡ digitsPlan width n ⌝ }
+    ensures after { λ _. ⌜ now (table .exit) ≡ sets (now (table .entry)) 0 (digitsPlan width n) ⌝ }
 {
     let m = digit_count(width);
     if n < m {
-        return count_up(n, table);
+        return write_list(n, table);
     }
-    let mut len = count_up(m - 1, table);
+    let mut len = write_list(m - 1, table);
     let below = n.ilog2() / width;
     let mut value = n >> (below * width);
     let mut from = value as usize - 1;
     for place in (0..below).rev() {
-        len = double_all(width, value, from, len, table);
-        value *= m;
         let digit = (n >> (place * width)) % m;
-        if digit > 0 {
-            value += digit;
-            table[len] = Step {
-                j: len as u16,
-                k: (digit - 1) as u16,
-                value,
-            };
-            len += 1;
-        }
+        len = write_digit(width, digit, value, from, len, table);
+        value = value * m + digit;
         from = len;
     }
     len
@@ -64,5 +54,5 @@ pub fn digits(n: u64, width: u32, table: &mut [Step]) -> Result<usize, Refusal>
     ensures chain { λ r. ⌜ made r (λ l. Chain n (take l (now (table .exit)))) ⌝ }
 {
     check_request(is_width(width), n, table.len())?;
-    Ok(write_digits(n, width, table))
+    Ok(write_plan(n, width, table))
 }

@@ -1,3 +1,4 @@
 pub mod Kinds
 pub mod Powers
 pub mod Counting
+pub mod Residues

@@ -17,9 +17,12 @@ use Rattle.fields.proofs.Inverse.{length-field, digits-within, read-field, writ
 use Rattle.plans.specs.declared.step.Step.{Step}
 use Rattle.plans.specs.Chain.{noStep, stepAt, Chain}
 use Rattle.sheets.specs.declared.fault.Fault.{Fault}
-use Rattle.sheets.specs.Lines.{line, lineBytes, newline, Writable, start, width, cell}
+use Rattle.sheets.specs.declared.column.Column.{Column}
+use Rattle.sheets.specs.declared.column.Column.the-variants.{Number, First, Second, Value}
+use Rattle.sheets.specs.Columns.{start, width, cell}
+use Rattle.sheets.specs.Lines.{line, lineBytes, newline, Writable}
 use Rattle.sheets.specs.Sheets.{sheet, sheetFrom, sheetBytes, AllWritable, wrote, written}
-use Rattle.sheets.specs.Reading.{fault, numberIn, andThen, numbers, numbered, readLine, lineAt, lineIn, Found, orNext, firstFault, stepOf, stepsFrom, textLines, roomFor, unlessFound, readLines, readSheet}
+use Rattle.sheets.specs.Reading.{fault, numberIn, andThen, numbers, numbered, readLine, lineAt, lineIn, Found, orNext, firstFault, stepOf, stepsFrom, textLines, roomFor, unlessFound, readLines, readSheet, counted, filled}
 use borrow.Rule.Slice.PartMut.{putMid, postOf}
 use borrow.Author.Tests.{eq-eqb}
 use Rattle.std.proofs.shelf.Tests.{ne-eqb}
@@ -28,35 +31,54 @@ use Rattle.std.proofs.shelf.Lists.{append-assoc, take-at, drop-at, drop-drop, s
 -- ---- reading
 -- the four fields of a line hold n, j, k and v
 pub record Holds (b : List ℕ) (n j k v : ℕ) : Type 0 where
-  pub number : fieldValue (cell 1 b) ≡ Some n
-  pub first : fieldValue (cell 2 b) ≡ Some j
-  pub second : fieldValue (cell 3 b) ≡ Some k
-  pub value : fieldValue (cell 4 b) ≡ Some v
+  pub number : fieldValue (cell Number b) ≡ Some n
+  pub first : fieldValue (cell First b) ≡ Some j
+  pub second : fieldValue (cell Second b) ≡ Some k
+  pub value : fieldValue (cell Value b) ≡ Some v
+
+-- the part of a line from where a column begins
+pub cell-is : (c : Column) (b : List ℕ) (first size : ℕ) → first ≡ start c → size ≡ width c → take (first + size - first) (drop first b) ≡ cell c b
+cell-is c b first size e f =
+    ap (λ k. take k (drop first b)) {x = first + size - first} {y = width c} (omega arith) ∙ ap (λ k. take (width c) (drop k b)) e
+
+-- a column lies before the newline
+pub column-end : (c : Column) → start c + width c < lineBytes
+column-end Number = lit< tt
+column-end First = lit< tt
+column-end Second = lit< tt
+column-end Value = lit< tt
+
+pub length-cell : (c : Column) (b : List ℕ) → length b ≡ lineBytes → length (cell c b) ≡ width c
+length-cell c b l = length-take-le (width c) (drop (start c) b) (simp length-drop (omega (arith, column-end c)))
+
+-- a number in a column is below what its width has room for
+pub cell-bound : (c : Column) (b : List ℕ) (v : ℕ) → length b ≡ lineBytes → fieldValue (cell c b) ≡ Some v → v < 10 ^ width c
+cell-bound c b v l e = subst (λ (k : ℕ). v < 10 ^ k) (length-cell c b l) (write-field (cell c b) v e .1)
 
 -- a number that was read stands in its field
-pub number-held : (i f : ℕ) (o : Option ℕ) (v : ℕ) → Ok v ≡ numberIn i f o → o ≡ Some v
+pub number-held : (i : ℕ) (f : Column) (o : Option ℕ) (v : ℕ) → Ok v ≡ numberIn i f o → o ≡ Some v
 number-held i f None v e = cc
 number-held i f (Some x) v e = cc
 
 numbers-held : (i : ℕ) (b : List ℕ) (n j k v : ℕ) (go : ℕ → ℕ → ℕ → ℕ → Result Step Fault) → Holds b n j k v → numbers i b go ≡ go n j k v
 numbers-held i b n j k v go h =
-    ap (λ o. andThen (numberIn i 1 o) (λ n. andThen (numberIn i 2 (fieldValue (cell 2 b))) (λ j. andThen (numberIn i 3 (fieldValue (cell 3 b))) (λ k. andThen (numberIn i 4 (fieldValue (cell 4 b))) (λ v. go n j k v))))) (h .number)
-    ∙ ap (λ o. andThen (numberIn i 2 o) (λ j. andThen (numberIn i 3 (fieldValue (cell 3 b))) (λ k. andThen (numberIn i 4 (fieldValue (cell 4 b))) (λ v. go n j k v)))) (h .first)
-    ∙ ap (λ o. andThen (numberIn i 3 o) (λ k. andThen (numberIn i 4 (fieldValue (cell 4 b))) (λ v. go n j k v))) (h .second)
-    ∙ ap (λ o. andThen (numberIn i 4 o) (λ v. go n j k v)) (h .value)
+    ap (λ o. andThen (numberIn i Number o) (λ n. andThen (numberIn i First (fieldValue (cell First b))) (λ j. andThen (numberIn i Second (fieldValue (cell Second b))) (λ k. andThen (numberIn i Value (fieldValue (cell Value b))) (λ v. go n j k v))))) (h .number)
+    ∙ ap (λ o. andThen (numberIn i First o) (λ j. andThen (numberIn i Second (fieldValue (cell Second b))) (λ k. andThen (numberIn i Value (fieldValue (cell Value b))) (λ v. go n j k v)))) (h .first)
+    ∙ ap (λ o. andThen (numberIn i Second o) (λ k. andThen (numberIn i Value (fieldValue (cell Value b))) (λ v. go n j k v))) (h .second)
+    ∙ ap (λ o. andThen (numberIn i Value o) (λ v. go n j k v)) (h .value)
 
 line-held : (b : List ℕ) (i n j k v : ℕ) → getD b 31 0 ≡ newline → Holds b n j k v → readLine i b ≡ numbered i n j k v
 line-held b i n j k v e h =
-    ap (λ t. cond t (numbers i b (numbered i)) (Err (fault (SheetLine i) 0))) (eq-eqb (getD b 31 0) newline e)
+    ap (λ t. cond t (numbers i b (numbered i)) (Err (fault (SheetLine i) None))) (eq-eqb (getD b 31 0) newline e)
     ∙ numbers-held i b n j k v (numbered i) h
 
 pub line-ok : (b : List ℕ) (i n j k v : ℕ) → getD b 31 0 ≡ newline → Holds b n j k v → n ≡ i → readLine i b ≡ Ok (record { j = j; k = k; value = v })
 line-ok b i n j k v e h q =
-    line-held b i n j k v e h ∙ ap (λ t. cond t (Ok (record { j = j; k = k; value = v })) (Err (fault (StepNumber i) 1))) (eq-eqb n i q)
+    line-held b i n j k v e h ∙ ap (λ t. cond t (Ok (record { j = j; k = k; value = v })) (Err (fault (StepNumber i) (Some Number)))) (eq-eqb n i q)
 
-pub line-misnumbered : (b : List ℕ) (i n j k v : ℕ) → getD b 31 0 ≡ newline → Holds b n j k v → (n ≡ i → ⊥) → readLine i b ≡ Err (fault (StepNumber i) 1)
+pub line-misnumbered : (b : List ℕ) (i n j k v : ℕ) → getD b 31 0 ≡ newline → Holds b n j k v → (n ≡ i → ⊥) → readLine i b ≡ Err (fault (StepNumber i) (Some Number))
 line-misnumbered b i n j k v e h q =
-    line-held b i n j k v e h ∙ ap (λ t. cond t (Ok (record { j = j; k = k; value = v })) (Err (fault (StepNumber i) 1))) (ne-eqb n i q)
+    line-held b i n j k v e h ∙ ap (λ t. cond t (Ok (record { j = j; k = k; value = v })) (Err (fault (StepNumber i) (Some Number)))) (ne-eqb n i q)
 
 -- ---- writing
 pub put-next : (p q ys : List ℕ) (a k : ℕ) → length p ≡ a → putMid a k (p ++ q) ys ≡ p ++ (ys ++ drop k q)

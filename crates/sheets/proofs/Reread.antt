@@ -17,9 +17,12 @@ use Rattle.fields.proofs.Inverse.{length-field, digits-within, read-field, writ
 use Rattle.plans.specs.declared.step.Step.{Step}
 use Rattle.plans.specs.Chain.{noStep, stepAt, Chain}
 use Rattle.sheets.specs.declared.fault.Fault.{Fault}
-use Rattle.sheets.specs.Lines.{line, lineBytes, newline, Writable, start, width, cell}
+use Rattle.sheets.specs.declared.column.Column.{Column}
+use Rattle.sheets.specs.declared.column.Column.the-variants.{Number, First, Second, Value}
+use Rattle.sheets.specs.Columns.{start, width, cell}
+use Rattle.sheets.specs.Lines.{line, lineBytes, newline, Writable}
 use Rattle.sheets.specs.Sheets.{sheet, sheetFrom, sheetBytes, AllWritable, wrote, written}
-use Rattle.sheets.specs.Reading.{fault, numberIn, andThen, numbers, numbered, readLine, lineAt, lineIn, Found, orNext, firstFault, stepOf, stepsFrom, textLines, roomFor, unlessFound, readLines, readSheet}
+use Rattle.sheets.specs.Reading.{fault, numberIn, andThen, numbers, numbered, readLine, lineAt, lineIn, Found, orNext, firstFault, stepOf, stepsFrom, textLines, roomFor, unlessFound, readLines, readSheet, counted, filled}
 use Rattle.std.proofs.shelf.Lists.{append-assoc, append-nil, take-at, drop-at, getD-at, length-append, length-drop, length-take-le, take-more, take-all, drop-drop, drop-all, drop-more, take-append-drop, getD-drop}
 use Rattle.std.proofs.shelf.Tests.{le-leb, leb-true, eq-eqb, eqb-true}
 use Rattle.std.specs.Written.{decimal}
@@ -88,10 +91,10 @@ line-reads i s hi hs =
     line-ok (line i s) i i (s .j) (s .k) (s .value)
     (four-end _ _ _ _ a b c d)
     (record {
-      number = narrow-held i (cell 1 (line i s)) (four-1 _ _ _ _ a b c d) hi;
-      first = narrow-held (s .j) (cell 2 (line i s)) (four-2 _ _ _ _ a b c d) (hs .0);
-      second = narrow-held (s .k) (cell 3 (line i s)) (four-3 _ _ _ _ a b c d) (hs .1);
-      value = value-held (s .value) (cell 4 (line i s)) (four-4 _ _ _ _ a b c d) (hs .2);
+      number = narrow-held i (cell Number (line i s)) (four-1 _ _ _ _ a b c d) hi;
+      first = narrow-held (s .j) (cell First (line i s)) (four-2 _ _ _ _ a b c d) (hs .0);
+      second = narrow-held (s .k) (cell Second (line i s)) (four-3 _ _ _ _ a b c d) (hs .1);
+      value = value-held (s .value) (cell Value (line i s)) (four-4 _ _ _ _ a b c d) (hs .2);
     })
     refl
 

@@ -17,9 +17,12 @@ use Rattle.fields.proofs.Inverse.{length-field, digits-within, read-field, writ
 use Rattle.plans.specs.declared.step.Step.{Step}
 use Rattle.plans.specs.Chain.{noStep, stepAt, Chain}
 use Rattle.sheets.specs.declared.fault.Fault.{Fault}
-use Rattle.sheets.specs.Lines.{line, lineBytes, newline, Writable, start, width, cell}
+use Rattle.sheets.specs.declared.column.Column.{Column}
+use Rattle.sheets.specs.declared.column.Column.the-variants.{Number, First, Second, Value}
+use Rattle.sheets.specs.Columns.{start, width, cell}
+use Rattle.sheets.specs.Lines.{line, lineBytes, newline, Writable}
 use Rattle.sheets.specs.Sheets.{sheet, sheetFrom, sheetBytes, AllWritable, wrote, written}
-use Rattle.sheets.specs.Reading.{fault, numberIn, andThen, numbers, numbered, readLine, lineAt, lineIn, Found, orNext, firstFault, stepOf, stepsFrom, textLines, roomFor, unlessFound, readLines, readSheet}
+use Rattle.sheets.specs.Reading.{fault, numberIn, andThen, numbers, numbered, readLine, lineAt, lineIn, Found, orNext, firstFault, stepOf, stepsFrom, textLines, roomFor, unlessFound, readLines, readSheet, counted, filled}
 use borrow.Rule.Slice.PartMut.{putMid, postOf}
 use Rattle.std.proofs.shelf.Lists.{append-assoc, append-nil, take-at, drop-at, length-append, length-drop, length-take-le, take-more, take-all, drop-drop}
 use Rattle.std.proofs.shelf.Tests.{le-leb}

@@ -1,3 +1,5 @@
+pub mod Columns
 pub mod Lines
 pub mod Sheets
 pub mod Reading
+pub mod Places

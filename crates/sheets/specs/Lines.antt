@@ -1,9 +1,6 @@
 -- The format of a line, which holds one step. Assumes nothing.
-use mathlib.Core.Bool.{cond}
 use mathlib.Core.List.{List, [], _∷_, _++_}
 use Prim.Native.Nat.{ℕ, _^_, _<_}
-use lib.Dec.{eqb}
-use lib.ListN.{take, drop}
 use Rattle.fields.specs.Field.{field}
 use Rattle.plans.specs.declared.step.Step.{Step}
 
@@ -19,18 +16,6 @@ newline = 10
 abbrev pub line : ℕ → Step → List ℕ
 line i s = field 4 i ++ (field 4 (s .j) ++ (field 4 (s .k) ++ (field 19 (s .value) ++ (newline ∷ []))))
 
--- the numbers of a step have room in their fields
+-- the numbers of a step have room in their columns
 abbrev pub Writable : Step → Type 0
 Writable s = (s .j < 10 ^ 4) × (s .k < 10 ^ 4) × (s .value < 10 ^ 19)
-
--- where field f of a line begins, the fields counted from 1 and the bytes from 0
-abbrev pub start : ℕ → ℕ
-start f = cond (eqb f 4) 12 (cond (eqb f 3) 8 (cond (eqb f 2) 4 0))
-
--- how many columns it has
-abbrev pub width : ℕ → ℕ
-width f = cond (eqb f 4) 19 4
-
--- field f of a line
-abbrev pub cell : ℕ → List ℕ → List ℕ
-cell f b = take (width f) (drop (start f) b)

@@ -14,37 +14,40 @@ use Rattle.fields.specs.Field.{fieldValue}
 use Rattle.plans.specs.declared.step.Step.{Step}
 use Rattle.plans.specs.Chain.{noStep}
 use Rattle.sheets.specs.declared.fault.Fault.{Fault}
-use Rattle.sheets.specs.Lines.{lineBytes, newline, cell}
+use Rattle.sheets.specs.declared.column.Column.{Column}
+use Rattle.sheets.specs.declared.column.Column.the-variants.{Number, First, Second, Value}
+use Rattle.sheets.specs.Columns.{cell}
+use Rattle.sheets.specs.Lines.{lineBytes, newline}
 
--- a refusal, and the field that it speaks of, or 0 where it speaks of none
-abbrev pub fault : Refusal → ℕ → Fault
-fault e f = record { refusal = e; field = f }
+-- a refusal, with the column at fault
+abbrev pub fault : Refusal → Option Column → Fault
+fault e c = record { refusal = e; column = c }
 
--- the number in field f of line i, or the fault that it is malformed
-abbrev pub numberIn : ℕ → ℕ → Option ℕ → Result ℕ Fault
-numberIn i f (Some v) = Ok v
-numberIn i f None = Err (fault (Field i) f)
+-- the number in a column of line i, or the fault that it is malformed
+abbrev pub numberIn : ℕ → Column → Option ℕ → Result ℕ Fault
+numberIn i c (Some v) = Ok v
+numberIn i c None = Err (fault (Field i) (Some c))
 
 -- what comes after, unless there is a fault
 abbrev pub andThen : {X Y : Type 0} → Result X Fault → (X → Result Y Fault) → Result Y Fault
 andThen (Ok x) go = go x
 andThen (Err f) go = Err f
 
--- what comes of the numbers in the fields of line i, read from the left
+-- what comes of the numbers in the columns of line i, read from the left
 abbrev pub numbers : ℕ → List ℕ → (ℕ → ℕ → ℕ → ℕ → Result Step Fault) → Result Step Fault
 numbers i b go =
-    andThen (numberIn i 1 (fieldValue (cell 1 b))) (λ n.
-    andThen (numberIn i 2 (fieldValue (cell 2 b))) (λ j.
-    andThen (numberIn i 3 (fieldValue (cell 3 b))) (λ k.
-    andThen (numberIn i 4 (fieldValue (cell 4 b))) (λ v. go n j k v))))
+    andThen (numberIn i Number (fieldValue (cell Number b))) (λ n.
+    andThen (numberIn i First (fieldValue (cell First b))) (λ j.
+    andThen (numberIn i Second (fieldValue (cell Second b))) (λ k.
+    andThen (numberIn i Value (fieldValue (cell Value b))) (λ v. go n j k v))))
 
 -- the step of line i, whose step number is to be i
 abbrev pub numbered : ℕ → ℕ → ℕ → ℕ → ℕ → Result Step Fault
-numbered i n j k v = cond (eqb n i) (Ok (record { j = j; k = k; value = v })) (Err (fault (StepNumber i) 1))
+numbered i n j k v = cond (eqb n i) (Ok (record { j = j; k = k; value = v })) (Err (fault (StepNumber i) (Some Number)))
 
--- line i: its newline, its fields from the left, its step number
+-- line i: its newline, its columns from the left, its step number
 abbrev pub readLine : ℕ → List ℕ → Result Step Fault
-readLine i b = cond (eqb (getD b (lineBytes - 1) 0) newline) (numbers i b (numbered i)) (Err (fault (SheetLine i) 0))
+readLine i b = cond (eqb (getD b (lineBytes - 1) 0) newline) (numbers i b (numbered i)) (Err (fault (SheetLine i) None))
 
 -- line i + 1 of a text
 abbrev pub lineAt : ℕ → List ℕ → List ℕ
@@ -53,6 +56,11 @@ lineAt i t = take lineBytes (drop (lineBytes * i) t)
 -- what it holds
 abbrev pub lineIn : ℕ → List ℕ → Result Step Fault
 lineIn i t = readLine (i + 1) (lineAt i t)
+
+-- the step of a line, or its refusal
+abbrev pub told : Result Step Fault → Result Step Refusal
+told (Ok s) = Ok s
+told (Err f) = Err (f .refusal)
 
 -- a fault in a text, with the number of lines before it
 pub record Found : Type 0 where
@@ -68,6 +76,11 @@ orNext i (Err f) next = Some (record { before = i; fault = f })
 abbrev pub firstFault : ℕ → ℕ → List ℕ → Option Found
 firstFault zero i t = None
 firstFault (suc n) i t = orNext i (lineIn i t) (firstFault n (i + 1) t)
+
+-- the verdict on lines with this first fault
+abbrev pub passed : Option Found → Result (Unit {0}) Refusal
+passed None = Ok tt
+passed (Some f) = Err (f .fault .refusal)
 
 -- the step that a line holds
 abbrev pub stepOf : Result Step Fault → Step
@@ -101,3 +114,13 @@ readLines (Err e) t = Err e
 -- reading a text into m places
 abbrev pub readSheet : List ℕ → ℕ → Result (List Step) Refusal
 readSheet t m = readLines (roomFor m (textLines (length t))) t
+
+-- how many steps were read
+abbrev pub counted : Result (List Step) Refusal → Result ℕ Refusal
+counted (Ok ss) = Ok (length ss)
+counted (Err e) = Err e
+
+-- the table after reading: the steps in front, or all as it was
+abbrev pub filled : Result (List Step) Refusal → List Step → List Step
+filled (Ok ss) was = ss ++ drop (length ss) was
+filled (Err e) was = was

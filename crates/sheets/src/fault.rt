@@ -1,9 +1,10 @@
 //! What is wrong with a line.
+use crate::column::Column;
 use refusals::Refusal;
 
-/// A refusal, and the field of the line that it speaks of, counted from 1, or 0 where it speaks of none.
+/// A refusal of a line, and the column at fault where there is one.
 #[derive(Clone, Copy)]
 pub(crate) struct Fault {
     pub(crate) refusal: Refusal,
-    pub(crate) field: usize,
+    pub(crate) column: Option<Column>,
 }

@@ -2,9 +2,17 @@
 ghost use mathlib.Core.Path.{_≡_};
 ghost use Prim.Native.Nat.{_^_, _<_};
 ghost use lib.ListN.{length};
+ghost use Rattle.std.specs.Vec.{made};
+ghost use Rattle.fields.specs.Field.{fieldValue};
+ghost use Rattle.sheets.specs.Columns.{cell, width};
 ghost use Rattle.sheets.specs.Lines.{line, lineBytes, Writable};
+ghost use Rattle.sheets.specs.Reading.{numberIn, readLine};
+use crate::column::Column;
+use crate::fault::Fault;
+use fields::parse_field;
 use fields::write_field;
 use plans::Step;
+use refusals::Refusal;
 
 /// The bytes of a line.
 pub const LINE_BYTES: usize = 32;
@@ -21,4 +29,48 @@ pub(crate) fn write_line(out: &mut [u8], i: usize, step: &Step)
     write_field(&mut out[8..12], step.k as u64);
     write_field(&mut out[12..31], step.value);
     out[LINE_BYTES - 1] = b'\n';
+}
+
+// The number in a column of line `i`.
+fn number_in(line: &[u8], i: usize, column: Column) -> Result<u64, Fault>
+    requires whole { ⌜ length (now line) ≡ lineBytes ⌝ }
+    ensures value { λ r. ⌜ r ≡ numberIn i column (fieldValue (cell column (now (line .entry)))) ⌝ }
+    ensures bound { λ r. ⌜ made r (λ v. v < 10 ^ width column) ⌝ }
+{
+    let (first, size) = column.span();
+    match parse_field(&line[first..first + size]) {
+        Some(v) => Ok(v),
+        None => Err(Fault {
+            refusal: Refusal::Field(i as u64),
+            column: Some(column),
+        }),
+    }
+}
+
+// The step in line `i`: its newline is checked, then its columns from the left, then its step number.
+pub(crate) fn read_line(line: &[u8], i: usize) -> Result<Step, Fault>
+    requires whole { ⌜ length (now line) ≡ lineBytes ⌝ }
+    ensures value { λ r. ⌜ r ≡ readLine i (now (line .entry)) ⌝ }
+{
+    if line[LINE_BYTES - 1] != b'\n' {
+        return Err(Fault {
+            refusal: Refusal::SheetLine(i as u64),
+            column: None,
+        });
+    }
+    let number = number_in(line, i, Column::Number)?;
+    let j = number_in(line, i, Column::First)?;
+    let k = number_in(line, i, Column::Second)?;
+    let value = number_in(line, i, Column::Value)?;
+    if number != i as u64 {
+        return Err(Fault {
+            refusal: Refusal::StepNumber(i as u64),
+            column: Some(Column::Number),
+        });
+    }
+    Ok(Step {
+        j: j as u16,
+        k: k as u16,
+        value,
+    })
 }

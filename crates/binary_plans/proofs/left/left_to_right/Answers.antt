@@ -1,41 +1,23 @@
-use mathlib.Core.Path.{_≡_, refl, sym, ap, subst, _∙_}
-use mathlib.Core.List.{List, [], _∷_}
-use Prim.Native.Nat.{ℕ, _+_, _-_, _/_, _^_, _≤_, _<_}
 use native.Mathlib.Omega.{arith}
-use lib.ListN.{length}
-use Rattle.planning.proofs.Filling.{Filled, filled-none}
-use Rattle.binary_plans.specs.LeftToRight.{leftFrom, leftToRight}
-use Rattle.binary_plans.proofs.Halves.{Highest, highest, finished}
-use Rattle.binary_plans.proofs.LeftPlans.{lefts-none, lefts-one, left-all-length, left-all-chain}
+use Rattle.binary_plans.proofs.BothPlans.{Highest, highest}
+use Rattle.binary_plans.proofs.LeftPlans.{left-first, left-turn-none, left-turn-one, left-done}
 use Rattle.binary_plans.proofs.left.left_to_right.Needs as need
+use Rattle.binary_plans.proofs.left.left_to_right.Needs.{After-ilog2-bit, at·returns}
+
+high-bit : (c : After-ilog2-bit) → Highest (c .args .n) (c .ilog2-bit .result)
+high-bit c = highest (c .in-Continue-check-request .ensures tt .bounded) (c .ilog2-bit .ensures .high-bound) (c .ilog2-bit .ensures .low-bound)
 
 pub loop-bit-holds : need.loop-bit-holds
-loop-bit-holds c =
-    let n : ℕ = c .args .n in
-    let ok = c .in-Continue-check-request .ensures tt in
-    let h = highest n (c .ilog2-bit .result) (ok .bounded) (c .ilog2-bit .ensures .high-bound) (c .ilog2-bit .ensures .low-bound) in (
-      subst (λ (x : ℕ). Filled (leftToRight n) (c .args .table .now) (c .args .table .now) 0 (leftFrom n x 0 1)) (h .is) (filled-none _ _),
-      omega (arith, h .small),
-      sym (subst (λ (x : ℕ). n / 2 ^ x ≡ 1) (h .is) (h .one)),
-    )
+loop-bit-holds c = left-first (c .in-Continue-check-request .ensures tt .places) (high-bit c)
 
 pub loop-bit-again-then-n-bit-eq1 : need.loop-bit-again-then-n-bit-eq1
-loop-bit-again-then-n-bit-eq1 c =
-    let ok = c .in-Continue-check-request .ensures tt in
-    lefts-one _ _ _ _ _ _ (c .loop-bit-test .taken) (omega (arith, ok .places)) (c .loop-bit .inv) (c .if-n-bit-eq1 .taken)
+loop-bit-again-then-n-bit-eq1 c = left-turn-one (c .loop-bit .inv) (c .loop-bit-test .taken) (c .if-n-bit-eq1 .taken)
 
 pub loop-bit-again : need.loop-bit-again
-loop-bit-again c =
-    let ok = c .in-Continue-check-request .ensures tt in
-    lefts-none _ _ _ _ _ _ (c .loop-bit-test .taken) (omega (arith, ok .places)) (c .loop-bit .inv) (c .if-n-bit-eq1 .left)
+loop-bit-again c = left-turn-none (c .loop-bit .inv) (c .loop-bit-test .taken) (c .if-n-bit-eq1 .left)
 
 pub returns : need.returns
 returns c =
-    let n : ℕ = c .args .n in
     let ok = c .in-Continue-check-request .ensures tt in
-    let h = highest n (c .ilog2-bit .result) (ok .bounded) (c .ilog2-bit .ensures .high-bound) (c .ilog2-bit .ensures .low-bound) in
-    let z : c .loop-bit .bit ≡ 0 = omega arith in
-    let f = subst (λ (x : ℕ). Filled (leftToRight n) (c .args .table .now) (c .loop-bit .table) (c .loop-bit .len) (leftFrom n x (c .loop-bit .len) (c .loop-bit .value))) z (c .loop-bit .inv .0) in
-    let s : c .loop-bit .len ≤ 128 = omega arith in
-    let r = finished n _ (leftToRight n) _ _ _ (ok .positive) (ok .bounded) (ok .places) (omega (arith, ok .places)) f (left-all-length n (h .one)) (left-all-chain n (ok .positive) (ok .bounded) (h .one)) s in
-    record { answer = r .answer; after = r .after; within = s; count = r .length; chain = r .chain }
+    let r = left-done (ok .positive) (ok .bounded) (ok .places) (high-bit (at·returns c .After-ilog2-bit)) (c .loop-bit .inv) (omega arith) in
+    record { answer = r .answer; after = r .after; within = r .within; count = r .count; chain = r .chain }

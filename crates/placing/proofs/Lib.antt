@@ -1,0 +1,9 @@
+pub mod Pigeon
+pub mod Held
+pub mod Crowds
+pub mod Upto
+pub mod Fits
+pub mod Lasts
+pub mod Kept
+pub mod Answered
+pub mod Run

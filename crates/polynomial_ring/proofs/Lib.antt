@@ -1,0 +1,4 @@
+pub mod Products
+pub mod Coefficients
+pub mod Remainders
+pub mod Windows
