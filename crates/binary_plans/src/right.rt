@@ -52,13 +52,13 @@ pub fn right_to_left(n: u64, table: &mut [Step]) -> Result<usize, Refusal>
         };
         len += 1;
     }
-    if sum > 0 {
-        table[len] = Step {
-            j: len as u16,
-            k: sum_at as u16,
-            value: square + sum,
-        };
-        len += 1;
+    if sum == 0 {
+        return Ok(len);
     }
-    Ok(len)
+    table[len] = Step {
+        j: len as u16,
+        k: sum_at as u16,
+        value: square + sum,
+    };
+    Ok(len + 1)
 }

@@ -29,7 +29,7 @@ pub(crate) fn write_list(last: u64, table: &mut [Step]) -> usize
 // Doubles the value number `from` once for each bit of a digit, and writes the steps from place `at` on. Answers how many steps there are then.
 fn write_doubles(width: u32, value: u64, from: usize, at: usize, table: &mut [Step]) -> usize
     requires low { ⌜ 1 ≤ width ⌝ }
-    requires width { ⌜ width ≤ 5 ⌝ }
+    requires high { ⌜ width ≤ 5 ⌝ }
     requires positive { ⌜ 1 ≤ value ⌝ }
     requires bounded { ⌜ value * 2 ^ width < 2 ^ 63 ⌝ }
     requires earlier { ⌜ from ≤ at ⌝ }
@@ -70,7 +70,7 @@ pub(crate) fn write_digit(
     table: &mut [Step],
 ) -> usize
     requires low { ⌜ 1 ≤ width ⌝ }
-    requires width { ⌜ width ≤ 5 ⌝ }
+    requires high { ⌜ width ≤ 5 ⌝ }
     requires digit { ⌜ digit < 2 ^ width ⌝ }
     requires positive { ⌜ 1 ≤ value ⌝ }
     requires bounded { ⌜ value * 2 ^ width + digit < 2 ^ 63 ⌝ }

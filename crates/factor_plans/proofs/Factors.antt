@@ -145,7 +145,7 @@ factor-short (suc f) n h l b =
     (cases-lt n 2)
 
 -- the plan of an exponent has room in a table of 128 places
-pub factor-room : (n : ℕ) → 1 ≤ n → n < 2 ^ 63 → (length (factorPlan n) ≤ 128) × (length (factorPlan n) ≤ 2 * top n)
+pub factor-room : (n : ℕ) → 1 ≤ n → n < 2 ^ 63 → (length (factorPlan n) < 128) × (length (factorPlan n) ≤ 2 * top n)
 factor-room n l h =
     let t = top-below (top n) n (top-low n l) h in
     let s = factor-short n n (omega arith) l (omega arith) .0 in

@@ -116,4 +116,4 @@ factor-ends (suc f) n h l =
     (cases-lt n 2)
 
 pub factor-chain : (n : ℕ) → 1 ≤ n → n < 2 ^ 63 → Chain n (factorPlan n)
-factor-chain n l h = chain-from-ends n (factorPlan n) l h (factor-room n l h .0) (factor-ends n n (omega arith) l)
+factor-chain n l h = chain-from-ends n (factorPlan n) l h (omega (arith, factor-room n l h .0)) (factor-ends n n (omega arith) l)

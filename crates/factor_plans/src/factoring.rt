@@ -22,9 +22,10 @@ pub const TOP_FACTORED: u64 = 0xffff_ffff;
 fn factor_into(n: u64, base: usize, scale: u64, table: &mut [Step]) -> usize
     requires low { ⌜ 1 ≤ n ⌝ }
     requires high { ⌜ n * scale < 2 ^ 64 ⌝ }
-    requires room { ⌜ base + length (factorPlan n) ≤ 128 ⌝ }
+    requires room { ⌜ base + length (factorPlan n) < 128 ⌝ }
     requires places { ⌜ 128 ≤ length (now table) ⌝ }
     ensures count { λ r. ⌜ r ≡ length (factorPlan n) ⌝ }
+    ensures within { λ r. ⌜ base + r < 128 ⌝ }
     ensures after { λ _. ⌜ now (table .exit) ≡ sets (now (table .entry)) base (map (shifted base scale) (factorPlan n)) ⌝ }
 {
     let Some(p) = least_divisor(n) else {

@@ -1,24 +1,23 @@
 -- What a field holds, byte by byte.
-use mathlib.Core.Path.{_≡_, refl, sym, _∙_, ap, subst}
-use mathlib.Core.Bool.{Bool, true, false, cond, not, _&&_, _||_}
+use mathlib.Core.Path.{_≡_, sym, _∙_, ap}
+use mathlib.Core.Bool.{cond}
 use mathlib.Core.List.{List, [], _∷_, _++_}
-use Prim.Native.Nat.{ℕ, zero, suc, zero-le, _+_, _*_, _-_, _^_, _/_, _%_, _≤_, _<_}
+use Prim.Native.Nat.{ℕ, suc, zero-le, _+_, _*_, _-_, _^_, _/_, _%_, _≤_, _<_}
 use Rattle.std.specs.Written.{decimal}
 use Rattle.std.proofs.shelf.Decimals.{decimal-digit, decimal-step, decimal-some, length-decimal-le}
 use Rattle.std.proofs.shelf.Tests.{le-leb}
 use native.Mathlib.Decide.{decLt}
 use native.Mathlib.Omega.{arith}
-use lib.Dec.{eqb, ltb}
-use lib.ListN.{length, replicate, getD, drop, take, set}
-use borrow.Author.Needs.{needs}
+use lib.Dec.{eqb}
+use lib.ListN.{length, replicate, getD, drop, set}
 use Rattle.std.specs.declared.option.Option.{Option}
 use Rattle.std.specs.declared.option.Option.the-variants.{None, Some}
 use Rattle.std.proofs.shelf.Lists.{drop-more, drop-all, length-drop, drop-set, append-assoc, length-append}
 use native.Mathlib.Numerals.{add-one}
 use native.Mathlib.Nat.{pow-suc, pow-le-pow-right}
-use lib.Dec.{lit<, lit≤}
+use lib.Dec.{lit<}
 use Rattle.std.specs.shelf.Text.{allDigits}
-use Rattle.fields.specs.Field.{field, fieldValue, justified, numeral, unblank, readOn, mostColumns}
+use Rattle.fields.specs.Field.{field, fieldValue, justified, unblank, readOn, mostColumns}
 
 -- digits to the end, after the number so far
 abbrev pub rest : ℕ → List ℕ → Option ℕ

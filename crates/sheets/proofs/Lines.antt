@@ -1,29 +1,26 @@
 -- A line, from its fields and back.
 use mathlib.Core.Path.{_≡_, refl, sym, _∙_, ap, subst}
-use mathlib.Core.Bool.{Bool, true, false, cond}
+use mathlib.Core.Bool.{cond}
 use mathlib.Core.List.{List, [], _∷_, _++_}
-use Prim.Native.Nat.{ℕ, zero, suc, _+_, _*_, _-_, _/_, _%_, _^_, _≤_, _<_}
+use Prim.Native.Nat.{ℕ, _+_, _-_, _^_, _<_}
 use native.Mathlib.Omega.{arith}
-use lib.Dec.{eqb, ltb, leb, lit<, lit≤}
+use lib.Dec.{lit<}
 use lib.ListN.{length, getD, take, drop, set}
 use Rattle.std.specs.declared.option.Option.{Option}
 use Rattle.std.specs.declared.option.Option.the-variants.{None, Some}
 use Rattle.std.specs.declared.result.Result.{Result}
 use Rattle.std.specs.declared.result.Result.the-variants.{Ok, Err}
-use Rattle.refusals.specs.declared.refusal.Refusal.{Refusal}
-use Rattle.refusals.specs.declared.refusal.Refusal.the-variants.{TooLong, SheetLine, Field, StepNumber, TableShort}
+use Rattle.refusals.specs.declared.refusal.Refusal.the-variants.{SheetLine, StepNumber}
 use Rattle.fields.specs.Field.{field, fieldValue, put}
-use Rattle.fields.proofs.Inverse.{length-field, digits-within, read-field, write-field, put-field}
+use Rattle.fields.proofs.Inverse.{length-field, digits-within, write-field, put-field}
 use Rattle.plans.specs.declared.step.Step.{Step}
-use Rattle.plans.specs.Chain.{noStep, stepAt, Chain}
 use Rattle.sheets.specs.declared.fault.Fault.{Fault}
 use Rattle.sheets.specs.declared.column.Column.{Column}
 use Rattle.sheets.specs.declared.column.Column.the-variants.{Number, First, Second, Value}
-use Rattle.sheets.specs.Columns.{start, width, cell}
+use Rattle.sheets.specs.Columns.{start, width, cell, putCell}
 use Rattle.sheets.specs.Lines.{line, lineBytes, newline, Writable}
-use Rattle.sheets.specs.Sheets.{sheet, sheetFrom, sheetBytes, AllWritable, wrote, written}
-use Rattle.sheets.specs.Reading.{fault, numberIn, andThen, numbers, numbered, readLine, lineAt, lineIn, Found, orNext, firstFault, stepOf, stepsFrom, textLines, roomFor, unlessFound, readLines, readSheet, counted, filled}
-use borrow.Rule.Slice.PartMut.{putMid, postOf}
+use Rattle.sheets.specs.Reading.{fault, numberIn, andThen, numbers, numbered, readLine}
+use borrow.Rule.Slice.PartMut.{putMid}
 use borrow.Author.Tests.{eq-eqb}
 use Rattle.std.proofs.shelf.Tests.{ne-eqb}
 use Rattle.std.proofs.shelf.Lists.{append-assoc, take-at, drop-at, drop-drop, set-at, length-append, length-drop, length-take-le}
@@ -91,26 +88,33 @@ set-last p [] n x e h = let f : ⊥ = omega (arith, h) in elim f [ ]
 set-last p (y ∷ []) n x e h = set-at p y [] x n e
 set-last p (y ∷ (z ∷ zs)) n x e h = let f : ⊥ = omega (arith, h) in elim f [ ]
 
--- the columns before a are written, and then v in the next w: they were f, and the rest is as it was
-pub field-next : (o p out f : List ℕ) (a w v : ℕ) → length p ≡ a → out ≡ p ++ drop a o → a + w ≤ length o → 0 < w → v < 10 ^ w → v < 2 ^ 64 → f ≡ put v (take w (drop a out)) → (length (p ++ field w v) ≡ a + w) × (putMid a w out f ≡ (p ++ field w v) ++ drop (a + w) o)
-field-next o p out f a w v l e h z b b64 ef =
-    let was : drop a out ≡ drop a o = ap (drop a) e ∙ drop-at p (drop a o) a l in
-    let long : length (take w (drop a out)) ≡ w = length-take-le w (drop a out) (rw was (simp length-drop (omega arith))) in
-    let is : f ≡ field w v = ef ∙ put-field w v (take w (drop a out)) long z b b64 in (
-      length-append p (field w v) ∙ omega (arith, length-field w v (digits-within w v z b b64)),
-      ap (λ xs. putMid a w xs f) e ∙ put-next p (drop a o) f a w l
-          ∙ ap (λ xs. p ++ (xs ++ drop w (drop a o))) is
-          ∙ ap (λ xs. p ++ (field w v ++ xs)) (drop-drop w a o)
-          ∙ sym (append-assoc p (field w v) (drop (a + w) o)),
-    )
+-- a number goes into the bytes from where its column begins
+pub put-cell : (c : Column) (b f : List ℕ) (v first size : ℕ) → first ≡ start c → size ≡ width c → f ≡ put v (take (first + size - first) (drop first b)) → putMid first (first + size - first) b f ≡ putCell c v b
+put-cell c b f v first size e w ef =
+    ap (putMid first (first + size - first) b) (ef ∙ ap (put v) (cell-is c b first size e w))
+    ∙ ap (λ k. take first b ++ (put v (cell c b) ++ k)) (drop-drop (first + size - first) first b ∙ ap (λ k. drop k b) {x = first + (first + size - first)} {y = start c + width c} (omega arith))
+    ∙ ap (λ k. take k b ++ (put v (cell c b) ++ drop (start c + width c) b)) e
 
--- a line, from its four fields as each was written
-pub line-wrote : (o f1 f2 f3 f4 : List ℕ) (i : ℕ) (s : Step) → length o ≡ lineBytes → i < 10 ^ 4 → Writable s → f1 ≡ put i (take 4 o) → f2 ≡ put (s .j) (take 4 (drop 4 (f1 ++ postOf 0 4 o))) → f3 ≡ put (s .k) (take 4 (drop 8 (putMid 4 4 (f1 ++ postOf 0 4 o) f2))) → f4 ≡ put (s .value) (take 19 (drop 12 (putMid 8 4 (putMid 4 4 (f1 ++ postOf 0 4 o) f2) f3))) → set (putMid 12 19 (putMid 8 4 (putMid 4 4 (f1 ++ postOf 0 4 o) f2) f3) f4) 31 newline ≡ line i s
-line-wrote o f1 f2 f3 f4 i s lo hi hs e1 e2 e3 e4 =
-    let r1 = field-next o [] o f1 0 4 i refl refl (omega arith) (lit< tt) hi (omega arith) e1 in
-    let r2 = field-next o _ _ f2 4 4 (s .j) (r1 .0) (r1 .1) (omega arith) (lit< tt) (hs .0) (omega arith) e2 in
-    let r3 = field-next o _ _ f3 8 4 (s .k) (r2 .0) (r2 .1) (omega arith) (lit< tt) (hs .1) (omega arith) e3 in
-    let r4 = field-next o _ _ f4 12 19 (s .value) (r3 .0) (r3 .1) (omega arith) (lit< tt) (hs .2) (omega arith) e4 in
-    ap (λ xs. set xs 31 newline) (r4 .1)
+-- the columns before c are written, and then v in c
+column-next : (c : Column) (o p out : List ℕ) (v : ℕ) → length p ≡ start c → out ≡ p ++ drop (start c) o → length o ≡ lineBytes → 0 < width c → v < 10 ^ width c → v < 2 ^ 64 → (length (p ++ field (width c) v) ≡ start c + width c) × (putCell c v out ≡ (p ++ field (width c) v) ++ drop (start c + width c) o)
+column-next c o p out v l e lo z b b64 =
+    let front : take (start c) out ≡ p = ap (take (start c)) e ∙ take-at p (drop (start c) o) (start c) l in
+    let was : drop (start c) out ≡ drop (start c) o = ap (drop (start c)) e ∙ drop-at p (drop (start c) o) (start c) l in
+    let end : drop (start c + width c) out ≡ drop (start c + width c) o = sym (drop-drop (width c) (start c) out) ∙ ap (drop (width c)) was ∙ drop-drop (width c) (start c) o in
+    let long : length (cell c out) ≡ width c = length-take-le (width c) (drop (start c) out) (rw was (simp length-drop (omega (arith, column-end c)))) in
+    (length-append p (field (width c) v) ∙ omega (arith, length-field (width c) v (digits-within (width c) v z b b64)),
+     ap (λ xs. xs ++ (put v (cell c out) ++ drop (start c + width c) out)) front
+     ∙ ap (λ xs. p ++ (xs ++ drop (start c + width c) out)) (put-field (width c) v (cell c out) long z b b64)
+     ∙ ap (λ xs. p ++ (field (width c) v ++ xs)) end
+     ∙ sym (append-assoc p (field (width c) v) (drop (start c + width c) o)))
+
+-- a line, when each of its columns is written and then its newline
+pub line-wrote : (o o1 o2 o3 o4 : List ℕ) (i : ℕ) (s : Step) → length o ≡ lineBytes → i < 10 ^ 4 → Writable s → o1 ≡ putCell Number i o → o2 ≡ putCell First (s .j) o1 → o3 ≡ putCell Second (s .k) o2 → o4 ≡ putCell Value (s .value) o3 → set o4 31 newline ≡ line i s
+line-wrote o o1 o2 o3 o4 i s lo hi hs e1 e2 e3 e4 =
+    let r1 = column-next Number o [] o i refl refl lo (lit< tt) hi (omega arith) in
+    let r2 = column-next First o _ o1 (s .j) (r1 .0) (e1 ∙ r1 .1) lo (lit< tt) (hs .0) (omega arith) in
+    let r3 = column-next Second o _ o2 (s .k) (r2 .0) (e2 ∙ r2 .1) lo (lit< tt) (hs .1) (omega arith) in
+    let r4 = column-next Value o _ o3 (s .value) (r3 .0) (e3 ∙ r3 .1) lo (lit< tt) (hs .2) (omega arith) in
+    ap (λ xs. set xs 31 newline) (e4 ∙ r4 .1)
     ∙ set-last _ (drop 31 o) 31 newline (r4 .0) (simp length-drop (omega arith))
     ∙ simp append-assoc

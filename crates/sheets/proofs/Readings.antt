@@ -1,31 +1,22 @@
 -- The lines of a text, as they are read.
-use mathlib.Core.Path.{_≡_, refl, sym, _∙_, ap, subst}
-use mathlib.Core.Bool.{Bool, true, false, cond}
+use mathlib.Core.Path.{_≡_, refl, sym, _∙_, ap}
 use mathlib.Core.List.{List, [], _∷_, _++_}
-use Prim.Native.Nat.{ℕ, zero, suc, _+_, _*_, _-_, _/_, _%_, _^_, _≤_, _<_}
+use Prim.Native.Nat.{ℕ, zero, suc, _+_, _*_, _-_, _<_}
 use mathlib.Core.Logic.{_⊎_, inl, inr}
 use native.Mathlib.Omega.{arith}
-use lib.Dec.{eqb, ltb, leb, lit<, lit≤}
 use lib.ListN.{length, getD, take, drop, set}
 use Rattle.std.specs.declared.option.Option.{Option}
 use Rattle.std.specs.declared.option.Option.the-variants.{None, Some}
 use Rattle.std.specs.declared.result.Result.{Result}
 use Rattle.std.specs.declared.result.Result.the-variants.{Ok, Err}
 use Rattle.refusals.specs.declared.refusal.Refusal.{Refusal}
-use Rattle.refusals.specs.declared.refusal.Refusal.the-variants.{TooLong, SheetLine, Field, StepNumber, TableShort}
-use Rattle.fields.specs.Field.{field, fieldValue}
-use Rattle.fields.proofs.Inverse.{length-field, digits-within, read-field, write-field}
 use Rattle.plans.specs.declared.step.Step.{Step}
-use Rattle.plans.specs.Chain.{noStep, stepAt, Chain}
 use Rattle.sheets.specs.declared.fault.Fault.{Fault}
 use Rattle.sheets.specs.declared.column.Column.{Column}
-use Rattle.sheets.specs.declared.column.Column.the-variants.{Number, First, Second, Value}
-use Rattle.sheets.specs.Columns.{start, width, cell}
-use Rattle.sheets.specs.Lines.{line, lineBytes, newline, Writable}
-use Rattle.sheets.specs.Sheets.{sheet, sheetFrom, sheetBytes, AllWritable, wrote, written}
-use Rattle.sheets.specs.Reading.{fault, numberIn, andThen, numbers, numbered, readLine, lineAt, lineIn, Found, orNext, firstFault, stepOf, stepsFrom, textLines, roomFor, unlessFound, readLines, readSheet, counted, filled, told, passed}
-use Rattle.sheets.specs.Places.{Place, at, moved, stand, standIn, standing, faultPlace, part, offset}
-use Rattle.std.proofs.shelf.Lists.{drop-more, drop-all, set-at, append-assoc}
+use Rattle.sheets.specs.Lines.{line, lineBytes}
+use Rattle.sheets.specs.Reading.{fault, readLine, lineIn, Found, orNext, firstFault, stepOf, stepsFrom, textLines, told, passed}
+use Rattle.sheets.specs.Places.{Place, at, moved, stand}
+use Rattle.std.proofs.shelf.Lists.{drop-more, set-at, append-assoc}
 
 fault-step : (n i : ℕ) (t : List ℕ) → i < n → firstFault (n - i) i t ≡ orNext i (lineIn i t) (firstFault (n - (i + 1)) (i + 1) t)
 fault-step n i t h = ap (λ k. firstFault k i t) {x = n - i} {y = suc (n - (i + 1))} (omega arith)

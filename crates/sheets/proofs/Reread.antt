@@ -1,33 +1,27 @@
 -- A sheet that was written reads as the same steps.
 use mathlib.Core.Path.{_≡_, refl, sym, _∙_, ap, subst}
-use mathlib.Core.Bool.{Bool, true, false, cond}
+use mathlib.Core.Bool.{cond}
 use mathlib.Core.List.{List, [], _∷_, _++_}
 use Prim.Native.Nat.{ℕ, zero, suc, _+_, _*_, _-_, _/_, _%_, _^_, _≤_, _<_}
 use native.Mathlib.Omega.{arith}
-use lib.Dec.{eqb, ltb, leb, lit<, lit≤}
-use lib.ListN.{length, getD, take, drop, set}
-use Rattle.std.specs.declared.option.Option.{Option}
+use lib.Dec.{leb, lit<, lit≤}
+use lib.ListN.{length, getD, take, drop}
 use Rattle.std.specs.declared.option.Option.the-variants.{None, Some}
-use Rattle.std.specs.declared.result.Result.{Result}
 use Rattle.std.specs.declared.result.Result.the-variants.{Ok, Err}
-use Rattle.refusals.specs.declared.refusal.Refusal.{Refusal}
-use Rattle.refusals.specs.declared.refusal.Refusal.the-variants.{TooLong, SheetLine, Field, StepNumber, TableShort}
+use Rattle.refusals.specs.declared.refusal.Refusal.the-variants.{TooLong, SheetLine, TableShort}
 use Rattle.fields.specs.Field.{field, fieldValue}
-use Rattle.fields.proofs.Inverse.{length-field, digits-within, read-field, write-field}
+use Rattle.fields.proofs.Inverse.{length-field, digits-within, read-field}
 use Rattle.plans.specs.declared.step.Step.{Step}
-use Rattle.plans.specs.Chain.{noStep, stepAt, Chain}
-use Rattle.sheets.specs.declared.fault.Fault.{Fault}
-use Rattle.sheets.specs.declared.column.Column.{Column}
+use Rattle.plans.specs.Chain.{Chain}
 use Rattle.sheets.specs.declared.column.Column.the-variants.{Number, First, Second, Value}
-use Rattle.sheets.specs.Columns.{start, width, cell}
-use Rattle.sheets.specs.Lines.{line, lineBytes, newline, Writable}
+use Rattle.sheets.specs.Columns.{cell}
+use Rattle.sheets.specs.Lines.{line, lineBytes, Writable}
 use Rattle.sheets.specs.Sheets.{sheet, sheetFrom, sheetBytes, AllWritable, wrote, written}
-use Rattle.sheets.specs.Reading.{fault, numberIn, andThen, numbers, numbered, readLine, lineAt, lineIn, Found, orNext, firstFault, stepOf, stepsFrom, textLines, roomFor, unlessFound, readLines, readSheet, counted, filled}
-use Rattle.std.proofs.shelf.Lists.{append-assoc, append-nil, take-at, drop-at, getD-at, length-append, length-drop, length-take-le, take-more, take-all, drop-drop, drop-all, drop-more, take-append-drop, getD-drop}
-use Rattle.std.proofs.shelf.Tests.{le-leb, leb-true, eq-eqb, eqb-true}
+use Rattle.sheets.specs.Reading.{readLine, lineAt, lineIn, orNext, firstFault, stepOf, stepsFrom, textLines, roomFor, unlessFound, readLines, readSheet}
+use Rattle.std.proofs.shelf.Lists.{append-assoc, take-at, drop-at, getD-at, length-append, drop-drop, getD-drop}
+use Rattle.std.proofs.shelf.Tests.{le-leb, eq-eqb}
 use Rattle.std.specs.Written.{decimal}
 use Rattle.sheets.proofs.Lines.{line-ok}
-use Rattle.sheets.proofs.Readings.{length-steps}
 use Rattle.sheets.proofs.Writes.{all-written}
 
 -- ---- a line that was written
@@ -102,7 +96,7 @@ line-reads i s hi hs =
 all-tail : (s : Step) (ss : List Step) → AllWritable (s ∷ ss) → AllWritable ss
 all-tail s ss w k h = w (suc k) (omega arith)
 
-all-cons : (s : Step) (ss : List Step) → Writable s → AllWritable ss → AllWritable (s ∷ ss)
+pub all-cons : (s : Step) (ss : List Step) → Writable s → AllWritable ss → AllWritable (s ∷ ss)
 all-cons s ss w a zero h = w
 all-cons s ss w a (suc k) h = a k (omega arith)
 

@@ -1,30 +1,17 @@
 -- A sheet, as it is written line by line.
-use mathlib.Core.Path.{_≡_, refl, sym, _∙_, ap, subst}
-use mathlib.Core.Bool.{Bool, true, false, cond}
+use mathlib.Core.Path.{_≡_, sym, _∙_, ap}
+use mathlib.Core.Bool.{cond}
 use mathlib.Core.List.{List, [], _∷_, _++_}
-use Prim.Native.Nat.{ℕ, zero, suc, _+_, _*_, _-_, _/_, _%_, _^_, _≤_, _<_}
+use Prim.Native.Nat.{ℕ, suc, _+_, _*_, _-_, _≤_, _<_}
 use native.Mathlib.Omega.{arith}
-use lib.Dec.{eqb, ltb, leb, lit<, lit≤}
-use lib.ListN.{length, getD, take, drop, set}
-use Rattle.std.specs.declared.option.Option.{Option}
-use Rattle.std.specs.declared.option.Option.the-variants.{None, Some}
-use Rattle.std.specs.declared.result.Result.{Result}
+use lib.ListN.{length, getD, take, drop}
 use Rattle.std.specs.declared.result.Result.the-variants.{Ok, Err}
-use Rattle.refusals.specs.declared.refusal.Refusal.{Refusal}
-use Rattle.refusals.specs.declared.refusal.Refusal.the-variants.{TooLong, SheetLine, Field, StepNumber, TableShort}
-use Rattle.fields.specs.Field.{field, fieldValue}
-use Rattle.fields.proofs.Inverse.{length-field, digits-within, read-field, write-field}
+use Rattle.refusals.specs.declared.refusal.Refusal.the-variants.{TableShort}
 use Rattle.plans.specs.declared.step.Step.{Step}
-use Rattle.plans.specs.Chain.{noStep, stepAt, Chain}
-use Rattle.sheets.specs.declared.fault.Fault.{Fault}
-use Rattle.sheets.specs.declared.column.Column.{Column}
-use Rattle.sheets.specs.declared.column.Column.the-variants.{Number, First, Second, Value}
-use Rattle.sheets.specs.Columns.{start, width, cell}
-use Rattle.sheets.specs.Lines.{line, lineBytes, newline, Writable}
-use Rattle.sheets.specs.Sheets.{sheet, sheetFrom, sheetBytes, AllWritable, wrote, written}
-use Rattle.sheets.specs.Reading.{fault, numberIn, andThen, numbers, numbered, readLine, lineAt, lineIn, Found, orNext, firstFault, stepOf, stepsFrom, textLines, roomFor, unlessFound, readLines, readSheet, counted, filled}
-use borrow.Rule.Slice.PartMut.{putMid, postOf}
-use Rattle.std.proofs.shelf.Lists.{append-assoc, append-nil, take-at, drop-at, length-append, length-drop, length-take-le, take-more, take-all, drop-drop}
+use Rattle.sheets.specs.Lines.{line, lineBytes}
+use Rattle.sheets.specs.Sheets.{sheet, sheetFrom, sheetBytes, wrote, written}
+use borrow.Rule.Slice.PartMut.{putMid}
+use Rattle.std.proofs.shelf.Lists.{append-assoc, append-nil, length-append, length-take-le, take-more, take-all, drop-drop}
 use Rattle.std.proofs.shelf.Tests.{le-leb}
 use Rattle.sheets.proofs.Lines.{put-next}
 

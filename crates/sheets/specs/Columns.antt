@@ -1,7 +1,8 @@
 -- The columns of a line. Assumes nothing.
-use mathlib.Core.List.{List}
-use Prim.Native.Nat.{ℕ}
+use mathlib.Core.List.{List, _++_}
+use Prim.Native.Nat.{ℕ, _+_}
 use lib.ListN.{take, drop}
+use Rattle.fields.specs.Field.{put}
 use Rattle.sheets.specs.declared.column.Column.{Column}
 use Rattle.sheets.specs.declared.column.Column.the-variants.{Number, First, Second, Value}
 
@@ -22,3 +23,7 @@ width Value = 19
 -- the bytes of a column in a line
 abbrev pub cell : Column → List ℕ → List ℕ
 cell c b = take (width c) (drop (start c) b)
+
+-- a line after a number is written into a column
+abbrev pub putCell : Column → ℕ → List ℕ → List ℕ
+putCell c v b = take (start c) b ++ (put v (cell c b) ++ drop (start c + width c) b)

@@ -1,7 +1,8 @@
 -- Sheets, as they are written. Assumes nothing.
 use mathlib.Core.Bool.{cond}
+use mathlib.Core.Path.{_≡_}
 use mathlib.Core.List.{List, [], _∷_, _++_}
-use Prim.Native.Nat.{ℕ, _+_, _*_, _<_}
+use Prim.Native.Nat.{ℕ, _+_, _*_, _<_, _≤_}
 use lib.Dec.{leb}
 use lib.ListN.{length, drop}
 use Rattle.std.specs.declared.result.Result.{Result}
@@ -28,6 +29,14 @@ sheetBytes ss = lineBytes * length ss
 -- the numbers of each step have room in their fields
 abbrev pub AllWritable : List Step → Type 0
 AllWritable ss = (i : ℕ) → i < length ss → Writable (stepAt ss i)
+
+-- a text is the sheet of some steps, at most 128 and at most m
+pub record IsSheet (m : ℕ) (t : List ℕ) : Type 0 where
+  pub steps : List Step
+  pub writes : sheet steps ≡ t
+  pub room : AllWritable steps
+  pub short : length steps ≤ 128
+  pub placed : length steps ≤ m
 
 -- what writing into so many bytes answers
 abbrev pub wrote : List Step → ℕ → Result ℕ Refusal

@@ -4,7 +4,7 @@ ghost use Prim.Native.Nat.{_^_, _<_};
 ghost use lib.ListN.{length};
 ghost use Rattle.std.specs.Vec.{made};
 ghost use Rattle.fields.specs.Field.{fieldValue};
-ghost use Rattle.sheets.specs.Columns.{cell, width};
+ghost use Rattle.sheets.specs.Columns.{cell, putCell, width};
 ghost use Rattle.sheets.specs.Lines.{line, lineBytes, Writable};
 ghost use Rattle.sheets.specs.Reading.{numberIn, readLine};
 use crate::column::Column;
@@ -17,6 +17,15 @@ use refusals::Refusal;
 /// The bytes of a line.
 pub const LINE_BYTES: usize = 32;
 
+// Writes a number into a column of a line, where the column has room for it.
+fn write_number(line: &mut [u8], column: Column, v: u64)
+    requires whole { ⌜ length (now line) ≡ lineBytes ⌝ }
+    ensures after { λ _. ⌜ now (line .exit) ≡ putCell column v (now (line .entry)) ⌝ }
+{
+    let (first, size) = column.span();
+    write_field(&mut line[first..first + size], v);
+}
+
 // Writes step number `i` as a line: its number, the two values that it cites, its value, and a newline.
 pub(crate) fn write_line(out: &mut [u8], i: usize, step: &Step)
     requires room { ⌜ length (now out) ≡ lineBytes ⌝ }
@@ -24,10 +33,10 @@ pub(crate) fn write_line(out: &mut [u8], i: usize, step: &Step)
     requires step { ⌜ Writable (now step) ⌝ }
     ensures after { λ _. ⌜ now (out .exit) ≡ line i (now (step .entry)) ⌝ }
 {
-    write_field(&mut out[0..4], i as u64);
-    write_field(&mut out[4..8], step.j as u64);
-    write_field(&mut out[8..12], step.k as u64);
-    write_field(&mut out[12..31], step.value);
+    write_number(out, Column::Number, i as u64);
+    write_number(out, Column::First, step.j as u64);
+    write_number(out, Column::Second, step.k as u64);
+    write_number(out, Column::Value, step.value);
     out[LINE_BYTES - 1] = b'\n';
 }
 

@@ -6,11 +6,13 @@ ghost use lib.ListN.{length, take, drop};
 ghost use Rattle.std.specs.Vec.{made};
 ghost use denote.Ref.{ptr};
 ghost use Rattle.std.specs.Options.{mapped};
+ghost use Rattle.std.specs.Orderings.{Decides};
+ghost use Rattle.std.specs.Results.{isOk};
 ghost use Rattle.std.specs.Slices.{found};
 ghost use Rattle.std.specs.declared.option.Option.the-variants.{None, Some};
 ghost use Rattle.sheets.specs.declared.column.Column.{Column};
 ghost use Rattle.sheets.specs.Lines.{lineBytes};
-ghost use Rattle.sheets.specs.Sheets.{sheet};
+ghost use Rattle.sheets.specs.Sheets.{sheet, IsSheet};
 ghost use Rattle.sheets.specs.Reading.{lineIn, firstFault, stepsFrom, readSheet, counted, filled, told, passed};
 ghost use Rattle.sheets.specs.Places.{placeOf, outset, moved, stand, standing, faultPlace, part, offset};
 use crate::column::Column;
@@ -103,6 +105,7 @@ impl<'a> SheetReader<'a> {
     pub fn read(&mut self, table: &mut [Step]) -> Result<usize, Refusal>
         ensures answer { λ r. ⌜ r ≡ counted (readSheet (now (now (self .entry) .text)) (length (now (table .entry)))) ⌝ }
         ensures after { λ _. ⌜ now (table .exit) ≡ filled (readSheet (now (now (self .entry) .text)) (length (now (table .entry)))) (now (table .entry)) ⌝ }
+        ensures exactly { λ r. ⌜ Decides (isOk r) (IsSheet (length (now (table .entry))) (now (now (self .entry) .text))) ⌝ }
         ensures text { λ _. ⌜ now (self .exit) .text ≡ now (self .entry) .text ⌝ }
         ensures place { λ _. ⌜ placeOf (now (self .exit)) ≡ standing (now (now (self .entry) .text)) (length (now (table .entry))) ⌝ }
         ensures back { λ r. ⌜ made r (λ n. sheet (take n (now (table .exit))) ≡ now (now (self .entry) .text)) ⌝ }

@@ -46,7 +46,7 @@ from-base P was x h p = subst P (getD-set-same was 0 x x h) (p x)
 pub to-base : {V : Type 0} (P : V → Type 0) (was : List V) (x : V) → 0 < length was → P x → (d : V) → P (getD (set was 0 x) 0 d)
 to-base P was x h p d = subst P (sym (getD-set-same was 0 x d h)) p
 
-values-length : (s : List Step) → length (values s) ≡ length s + 1
+pub values-length : (s : List Step) → length (values s) ≡ length s + 1
 values-length s = ap suc (length-map s (λ x. x .value)) ∙ sym (add-one (length s))
 
 pub powers-length : {V : Type 0} (m : Meaning V) (s : List Step) (x : V) → length (powersOf m s x) ≡ length s + 1

@@ -12,7 +12,7 @@ use plans::Step;
 pub(crate) fn needed_marks(steps: &[Step]) -> [bool; 129]
     requires short { ⌜ length (now steps) ≤ 128 ⌝ }
     requires cites { ⌜ Cites (now steps) ⌝ }
-    ensures { λ r. ⌜ ((m : ℕ) → m < 129 → getD r m false ≡ needed (now (steps .entry)) m) ⌝ }
+    ensures marked { λ r. ⌜ ((m : ℕ) → m < 129 → getD r m false ≡ needed (now (steps .entry)) m) ⌝ }
 {
     let mut marks = [false; 129];
     marks[steps.len()] = true;
@@ -30,7 +30,7 @@ pub(crate) fn needed_marks(steps: &[Step]) -> [bool; 129]
 pub(crate) fn new_numbers(steps: &[Step], marks: &[bool; 129]) -> [u16; 129]
     requires short { ⌜ length (now steps) ≤ 128 ⌝ }
     requires marked { ⌜ ((m : ℕ) → m < 129 → getD (now marks) m false ≡ needed (now steps) m) ⌝ }
-    ensures { λ r. ⌜ ((m : ℕ) → m ≤ length (now (steps .entry)) → getD r m 0 ≡ rank (neededOf (now (steps .entry))) m) ⌝ }
+    ensures numbered { λ r. ⌜ ((m : ℕ) → m ≤ length (now (steps .entry)) → getD r m 0 ≡ rank (neededOf (now (steps .entry))) m) ⌝ }
 {
     let mut numbers = [0; 129];
     for i in 0..steps.len() {

@@ -11,10 +11,10 @@ pub loop-bit-holds : need.loop-bit-holds
 loop-bit-holds c = left-first (c .in-Continue-check-request .ensures tt .places) (high-bit c)
 
 pub loop-bit-again-then-n-bit-eq1 : need.loop-bit-again-then-n-bit-eq1
-loop-bit-again-then-n-bit-eq1 c = left-turn-one (c .loop-bit .inv) (c .loop-bit-test .taken) (c .if-n-bit-eq1 .taken)
+loop-bit-again-then-n-bit-eq1 c = left-turn-one (c .loop-bit .inv) (omega arith) (c .if-n-bit-eq1 .taken)
 
 pub loop-bit-again : need.loop-bit-again
-loop-bit-again c = left-turn-none (c .loop-bit .inv) (c .loop-bit-test .taken) (c .if-n-bit-eq1 .left)
+loop-bit-again c = left-turn-none (c .loop-bit .inv) (omega arith) (c .if-n-bit-eq1 .left)
 
 pub returns : need.returns
 returns c =

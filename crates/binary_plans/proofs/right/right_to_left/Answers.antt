@@ -3,7 +3,7 @@ use native.Mathlib.Omega.{arith}
 use Rattle.binary_plans.proofs.BothPlans.{Highest, highest}
 use Rattle.binary_plans.proofs.RightPlans.{right-start, square-fits, right-turn-none, right-turn-first, right-turn-more, right-done-alone, right-done-last}
 use Rattle.binary_plans.proofs.right.right_to_left.Needs as need
-use Rattle.binary_plans.proofs.right.right_to_left.Needs.{then-n-bit-eq1, else-n-bit-eq1, then-sum-eq0, else-sum-eq0, After-ilog2-highest, at·returns-then-sum-gt0, at·returns-else-sum-gt0}
+use Rattle.binary_plans.proofs.right.right_to_left.Needs.{then-n-bit-eq1, else-n-bit-eq1, then-sum-eq0, else-sum-eq0, After-ilog2-highest, at·returns, at·returns-then-sum-eq0-2}
 
 high-bit : (c : After-ilog2-highest) → Highest (c .args .n) (c .ilog2-highest .result)
 high-bit c = highest (c .in-Continue-check-request .ensures tt .bounded) (c .ilog2-highest .ensures .high-bound) (c .ilog2-highest .ensures .low-bound)
@@ -29,16 +29,16 @@ loop-bit-again c =
           right-turn-none (c .loop-bit .inv) more (w .table-is) (w .len-is) (w .sum-at-is) (w .sum-is) (w .if-n-bit-eq1 .left)
     ]
 
-pub returns-then-sum-gt0 : need.returns-then-sum-gt0
-returns-then-sum-gt0 c =
+pub returns-then-sum-eq0-2 : need.returns-then-sum-eq0-2
+returns-then-sum-eq0-2 c =
     let ok = c .in-Continue-check-request .ensures tt in
-    let h = high-bit (at·returns-then-sum-gt0 c .After-ilog2-highest) in
-    let r = right-done-last (ok .positive) (ok .bounded) (ok .places) h (c .loop-bit .inv) (c .loop-bit-test .left) (λ z. omega arith) in
+    let h = high-bit (at·returns-then-sum-eq0-2 c .After-ilog2-highest) in
+    let r = right-done-alone (ok .positive) (ok .bounded) (ok .places) h (c .loop-bit .inv) (c .loop-bit-test .left) (c .if-sum-eq0-2 .taken) in
     record { answer = r .answer; after = r .after; within = r .within; count = r .count; chain = r .chain }
 
-pub returns-else-sum-gt0 : need.returns-else-sum-gt0
-returns-else-sum-gt0 c =
+pub returns : need.returns
+returns c =
     let ok = c .in-Continue-check-request .ensures tt in
-    let h = high-bit (at·returns-else-sum-gt0 c .After-ilog2-highest) in
-    let r = right-done-alone (ok .positive) (ok .bounded) (ok .places) h (c .loop-bit .inv) (c .loop-bit-test .left) (omega arith) in
+    let h = high-bit (at·returns c .After-ilog2-highest) in
+    let r = right-done-last (ok .positive) (ok .bounded) (ok .places) h (c .loop-bit .inv) (c .loop-bit-test .left) (c .if-sum-eq0-2 .left) in
     record { answer = r .answer; after = r .after; within = r .within; count = r .count; chain = r .chain }

@@ -24,7 +24,7 @@ pub write-digit-len-requires : need.write-digit-len-requires
 write-digit-len-requires c κs =
     let g = c .loop-place .inv in
     let u = turn (c .digit-count-m .ensures .is) (c .loop-place-test .taken) g in
-    record { low = c .pre .low; width = c .pre .high; digit = u .digit; positive = g .positive; bounded = omega (arith, u .within); earlier = g .before; room = omega (arith, u .room); places = g .long }
+    record { low = c .pre .low; high = c .pre .high; digit = u .digit; positive = g .positive; bounded = omega (arith, u .within); earlier = g .before; room = omega (arith, u .room); places = g .long }
 
 -- the value stays within n
 next-within : {k n m len v e : ℕ} → m ≡ 2 ^ k → Turn k n len v e → v * m + e ≤ n

@@ -4,43 +4,19 @@ use Rattle.factor_plans.proofs.Factors.{prime-call, split-call, factor-none, p
 use Rattle.factor_plans.proofs.factoring.+factor_into.Needs as need
 
 pub returns-in-rest : need.returns-in-rest
-returns-in-rest t c = let e = factor-none (c .args .n) (c .in-rest .ensures tt .least) in record { count = rw e refl; after = rw e refl }
+returns-in-rest t c = let e = factor-none (c .args .n) (c .in-rest .ensures tt .least) in record { count = rw e refl; within = omega arith; after = rw e refl }
 
 pub factor-into-len-requires : need.factor-into-len-requires
 factor-into-len-requires t c κs =
     let r = prime-call (c .args .n) (c .in-Some .p) (c .args .scale) (c .in-Some .ensures tt .least) (c .if-p-n .taken) in
     (omega arith, (omega (arith, r .least .above), (omega arith, (omega arith, omega arith))))
 
-pub add-last : need.add-last
-add-last t c =
-    let r = prime-call (c .args .n) (c .in-Some .p) (c .args .scale) (c .in-Some .ensures tt .least) (c .if-p-n .taken) in
-    omega (arith, c .factor-into-len .ensures .count)
-
-pub cast-table : need.cast-table
-cast-table t c =
-    let r = prime-call (c .args .n) (c .in-Some .p) (c .args .scale) (c .in-Some .ensures tt .least) (c .if-p-n .taken) in
-    omega (arith, c .factor-into-len .ensures .count)
-
-pub offset-table-last : need.offset-table-last
-offset-table-last t c =
-    let r = prime-call (c .args .n) (c .in-Some .p) (c .args .scale) (c .in-Some .ensures tt .least) (c .if-p-n .taken) in
-    omega (arith, c .factor-into-len .ensures .count)
-
-pub index-table-last : need.index-table-last
-index-table-last t c =
-    let r = prime-call (c .args .n) (c .in-Some .p) (c .args .scale) (c .in-Some .ensures tt .least) (c .if-p-n .taken) in
-    omega (arith, c .factor-into-len .ensures .count)
-
-pub add-result : need.add-result
-add-result t c =
-    let r = prime-call (c .args .n) (c .in-Some .p) (c .args .scale) (c .in-Some .ensures tt .least) (c .if-p-n .taken) in
-    omega (arith, c .factor-into-len .ensures .count)
-
 pub returns-then-p-n : need.returns-then-p-n
 returns-then-p-n t c =
     let r = prime-call (c .args .n) (c .in-Some .p) (c .args .scale) (c .in-Some .ensures tt .least) (c .if-p-n .taken) in
     record {
       count = omega (arith, c .factor-into-len .ensures .count);
+      within = omega (arith, c .factor-into-len .ensures .count);
       after = prime-table (c .args .table .now) (c .factor-into-len .last .table) (c .args .n) (c .args .base) (c .args .scale) (c .factor-into-len .result) (r .least) (c .factor-into-len .ensures .count) (c .factor-into-len .ensures .after);
     }
 
@@ -48,11 +24,6 @@ pub factor-into-len-requires-2 : need.factor-into-len-requires-2
 factor-into-len-requires-2 t c κs =
     let r = split-call (c .args .n) (c .in-Some .p) (c .args .scale) (c .pre .low) (c .in-Some .ensures tt .least) (c .if-p-n .left) in
     (omega arith, (omega (arith, r .least .above), (omega arith, (omega arith, omega arith))))
-
-pub add-base : need.add-base
-add-base t c =
-    let r = split-call (c .args .n) (c .in-Some .p) (c .args .scale) (c .pre .low) (c .in-Some .ensures tt .least) (c .if-p-n .left) in
-    omega (arith, c .factor-into-len-2 .ensures .count)
 
 pub mul-scale : need.mul-scale
 mul-scale t c =
@@ -64,16 +35,12 @@ factor-into-requires t c κs =
     let r = split-call (c .args .n) (c .in-Some .p) (c .args .scale) (c .pre .low) (c .in-Some .ensures tt .least) (c .if-p-n .left) in
     (omega arith, (omega arith, (omega arith, (omega (arith, c .factor-into-len-2 .ensures .count), omega arith))))
 
-pub add-result-2 : need.add-result-2
-add-result-2 t c =
-    let r = split-call (c .args .n) (c .in-Some .p) (c .args .scale) (c .pre .low) (c .in-Some .ensures tt .least) (c .if-p-n .left) in
-    omega (arith, c .factor-into-len-2 .ensures .count, c .factor-into .ensures .count)
-
 pub returns : need.returns
 returns t c =
     let r = split-call (c .args .n) (c .in-Some .p) (c .args .scale) (c .pre .low) (c .in-Some .ensures tt .least) (c .if-p-n .left) in
     record {
       count = omega (arith, c .factor-into-len-2 .ensures .count, c .factor-into .ensures .count);
+      within = omega (arith, c .factor-into .ensures .within);
       after =
           split-table (c .args .table .now) (c .factor-into-len-2 .last .table) (c .factor-into .last .table) (c .args .n) (c .in-Some .p) (c .args .base) (c .args .scale) (c .factor-into-len-2 .result) (r .least) (r .less)
           (c .factor-into-len-2 .ensures .count) (c .factor-into-len-2 .ensures .after) (c .factor-into .ensures .after);

@@ -1,10 +1,9 @@
-use borrow.Author.Needs.{needs}
 use native.Mathlib.Omega.{arith}
-use mathlib.Core.Path.{_≡_, sym, _∙_, ap}
+use mathlib.Core.Path.{sym, _∙_, ap}
 use mathlib.Core.Logic.{⊎-elim}
-use Prim.Native.Nat.{_<_, _≤_}
-use lib.ListN.{length, drop}
-use Rattle.fields.specs.Field.{numeralValue, mostColumns}
+use Prim.Native.Nat.{_<_}
+use lib.ListN.{length}
+use Rattle.fields.specs.Field.{numeralValue}
 use Rattle.fields.proofs.Digits.{begins, empty, alone, leading, turn, stops, ends, room, below, pow-some, narrow}
 use Rattle.fields.proofs.parse.parse_field.Needs as need
 

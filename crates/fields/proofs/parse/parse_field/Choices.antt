@@ -1,6 +1,6 @@
-use Prim.Native.Nat.{_≤_, _<_, _^_}
+use Prim.Native.Nat.{_<_, _^_}
 use mathlib.Core.Path.{_≡_}
-use lib.ListN.{length, drop}
+use lib.ListN.{drop}
 use Rattle.fields.specs.Field.{justified}
 use Rattle.fields.proofs.Digits.{rest}
 use Rattle.fields.proofs.parse.parse_field.Given as given

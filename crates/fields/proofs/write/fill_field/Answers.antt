@@ -1,6 +1,5 @@
 use native.Mathlib.Omega.{arith}
-use mathlib.Core.Path.{_≡_}
-use Prim.Native.Nat.{_<_, _≤_, _-_, _+_}
+use Prim.Native.Nat.{_<_, _-_}
 use lib.ListN.{length, length-set}
 use Rattle.std.proofs.shelf.Decimals.{decimal-some}
 use Rattle.fields.proofs.Digits.{digit-in, digit-first, blank-in, blanks-none, column-left}

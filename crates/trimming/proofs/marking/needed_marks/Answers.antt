@@ -24,7 +24,7 @@ pub loop-i-again : need.loop-i-again
 loop-i-again c = marked-no (c .loop-i .marks) (length (c .args .steps .now) ∷ []) (c .args .steps .now) (c .loop-i .i) (c .loop-i-test .taken) (c .loop-i .kept .i) (c .pre .short) (c .loop-i .inv) (c .if-marks-i .left)
 
 pub returns : need.returns
-returns c m h =
+returns c =
     let s = c .args .steps .now in
     let z : c .loop-i .i ≡ 0 = omega arith in
-    c .loop-i .inv .same m h ∙ ap (λ (l : List ℕ). has l m) (ap (after (length s ∷ []) s) z ∙ after-all (length s ∷ []) s)
+    record { marked = λ m h. c .loop-i .inv .same m h ∙ ap (λ (l : List ℕ). has l m) (ap (after (length s ∷ []) s) z ∙ after-all (length s ∷ []) s) }

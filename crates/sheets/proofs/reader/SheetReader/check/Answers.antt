@@ -1,5 +1,5 @@
 use native.Mathlib.Omega.{arith}
-use mathlib.Core.Path.{_≡_, refl, sym, _∙_, ap}
+use mathlib.Core.Path.{_≡_, sym, _∙_, ap}
 use Prim.Native.Nat.{_+_, _-_}
 use Rattle.std.proofs.shelf.Results.{err-from-errBy}
 use Rattle.sheets.specs.Reading.{firstFault}

@@ -1,5 +1,5 @@
 use native.Mathlib.Omega.{arith}
-use mathlib.Core.Path.{_≡_, _∙_, ap}
+use mathlib.Core.Path.{_∙_, ap}
 use lib.ListN.{length}
 use Rattle.sheets.proofs.Readings.{fault-within, lines-whole}
 use Rattle.sheets.proofs.reader.SheetReader.field_at_fault.Needs as need

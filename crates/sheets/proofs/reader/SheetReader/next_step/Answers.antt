@@ -1,10 +1,6 @@
-use native.Mathlib.Omega.{arith}
-use mathlib.Core.Path.{_≡_, refl, sym, _∙_, ap}
-use Prim.Native.Nat.{_+_, _*_, _-_}
-use lib.ListN.{take, drop}
-use Rattle.std.specs.declared.result.Result.the-variants.{Ok, Err}
-use Rattle.sheets.specs.Lines.{lineBytes}
-use Rattle.sheets.specs.Reading.{lineIn, told}
+use mathlib.Core.Path.{refl, _∙_, ap}
+use Prim.Native.Nat.{_-_}
+use Rattle.sheets.specs.Reading.{told}
 use Rattle.sheets.specs.Places.{moved}
 use Rattle.sheets.proofs.Readings.{line-part}
 use Rattle.sheets.proofs.reader.SheetReader.next_step.Needs as need
