@@ -37,11 +37,10 @@ pub fn parse_field(b: &[u8]) -> Option<u64>
     }
     let mut v: u64 = 0;
     for k in i..b.len() {
-        let c = b[k];
-        if c < b'0' || c > b'9' {
-            return None;
+        match b[k] {
+            c @ b'0'..=b'9' => v = v * 10 + (c - b'0') as u64,
+            _ => return None,
         }
-        v = v * 10 + (c - b'0') as u64;
     }
     Some(v)
 }

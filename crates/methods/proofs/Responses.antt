@@ -8,7 +8,7 @@ use lib.Dec.{leb, eqb, lit<}
 use lib.ListN.{length, getD, take, drop, set}
 use lib.Seq.{drop-cons}
 use borrow.Rule.Slice.PartMut.{putMid, postOf}
-use Rattle.std.proofs.shelf.Lists.{append-assoc, length-append, set-at}
+use Rattle.std.proofs.shelf.Lists.{append-assoc, length-append, length-drop, length-take-le, drop-at, drop-drop, set-at}
 use Rattle.std.proofs.shelf.Tests.{le-leb, false≢true}
 use Rattle.std.specs.Orderings.{Decides}
 use Rattle.std.specs.Results.{Cases}
@@ -24,7 +24,8 @@ use Rattle.plans.specs.declared.step.Step.{Step}
 use Rattle.plans.specs.Chain.{Chain}
 use Rattle.planning.specs.Planning.{isExponent}
 use Rattle.sheets.specs.Sheets.{sheet, sheetBytes, wrote, written}
-use Rattle.sheets.proofs.Lines.{field-next}
+use Rattle.sheets.proofs.Lines.{put-next}
+use Rattle.fields.proofs.Inverse.{length-field, digits-within, put-field}
 use Rattle.sheets.proofs.Reread.{length-sheet, chain-writable}
 use Rattle.methods.specs.declared.method.Method.{Method as PlanMethod}
 use Rattle.methods.specs.declared.request.PlanRequest.{PlanRequest}
@@ -32,6 +33,19 @@ use Rattle.methods.specs.Methods.{methodOf, planOf, allows}
 use Rattle.methods.specs.Requests.{andThen, numberIn, columns, fieldsOf, requestOf, planBy, planFor, counted, stepsOr, asked, sheetLength, sheetOver, refusalLine, printed, response, roomAnswer, responded}
 
 -- ---- the line of a refusal
+-- the columns before a are written, and then v in the next w: they were f, and the rest is as it was
+field-next : (o p out f : List ℕ) (a w v : ℕ) → length p ≡ a → out ≡ p ++ drop a o → a + w ≤ length o → 0 < w → v < 10 ^ w → v < 2 ^ 64 → f ≡ put v (take w (drop a out)) → (length (p ++ field w v) ≡ a + w) × (putMid a w out f ≡ (p ++ field w v) ++ drop (a + w) o)
+field-next o p out f a w v l e h z b b64 ef =
+    let was : drop a out ≡ drop a o = ap (drop a) e ∙ drop-at p (drop a o) a l in
+    let long : length (take w (drop a out)) ≡ w = length-take-le w (drop a out) (rw was (simp length-drop (omega arith))) in
+    let is : f ≡ field w v = ef ∙ put-field w v (take w (drop a out)) long z b b64 in (
+      length-append p (field w v) ∙ omega (arith, length-field w v (digits-within w v z b b64)),
+      ap (λ xs. putMid a w xs f) e ∙ put-next p (drop a o) f a w l
+          ∙ ap (λ xs. p ++ (xs ++ drop w (drop a o))) is
+          ∙ ap (λ xs. p ++ (field w v ++ xs)) (drop-drop w a o)
+          ∙ sym (append-assoc p (field w v) (drop (a + w) o)),
+    )
+
 refusal-wrote : (o f1 f2 : List ℕ) (n p : ℕ) → 9 ≤ length o → n < 10 ^ 4 → p < 10 ^ 4 → f1 ≡ put n (take 4 o) → f2 ≡ put p (take 4 (drop 4 (f1 ++ postOf 0 4 o))) → (9 ≡ length (field 4 n ++ (field 4 p ++ (10 ∷ [])))) × (set (putMid 4 4 (f1 ++ postOf 0 4 o) f2) 8 10 ≡ (field 4 n ++ (field 4 p ++ (10 ∷ []))) ++ drop 9 o)
 refusal-wrote o f1 f2 n p h hn hp e1 e2 =
     let r1 = field-next o [] o f1 0 4 n refl refl (omega arith) (lit< tt) hn (omega arith) e1 in

@@ -184,7 +184,7 @@ noParents = replicate 1025 0
 no-parent : (c : ℕ) → c ≤ 1024 → getD noParents c 0 ≡ 0
 no-parent c h = getD-replicate 1025 c 0 0 (omega arith)
 
-first-held : Held (replicate 1025 0) (1 ∷ []) 2
+first-held : Held noParents (1 ∷ []) 2
 first-held =
     record {
       size = length-replicate {A = ℕ} 1025 0;
@@ -199,18 +199,18 @@ first-held =
       count = sym (ap (λ (x : ℕ). x + 1) (filled-none 1025));
     }
 
-first-path : Each (Stands (replicate 1025 0)) (firstLevel .paths)
+first-path : Each (Stands noParents) (firstLevel .paths)
 first-path = (record { good = refl; climbs = no-parent 1 (omega arith) }, tt)
 
 matches-first : Matches 0 (stageAt 0) (levelAt 0)
 unfolding stageAt
 matches-first =
-    subst (Matches 0 (stage (growth (replicate 1025 0) (1 ∷ [])) 0)) (sym level-first)
+    subst (Matches 0 (stage (growth noParents (1 ∷ [])) 0)) (sym level-first)
     (record {
       held = first-held;
       within = omega arith;
       ahead = refl;
-      paths = λ j h. let e : 0 ≡ j = omega arith in subst (λ (x : ℕ). Each (Stands (replicate 1025 0)) (levelAt x .paths)) e (subst (λ (x : Level). Each (Stands (replicate 1025 0)) (x .paths)) (sym level-first) first-path);
+      paths = λ j h. let e : 0 ≡ j = omega arith in subst (λ (x : ℕ). Each (Stands noParents) (levelAt x .paths)) e (subst (λ (x : Level). Each (Stands noParents) (x .paths)) (sym level-first) first-path);
     })
 
 next-matches : (i : ℕ) (s : Stage) → i ≤ 18 → Matches i s (levelAt i) → Matches (suc i) (nextStage s) (nextLevel (levelAt i))

@@ -18,7 +18,6 @@ use Rattle.plans.specs.Chain.{valueAt, Chain}
 use Rattle.planning.specs.Bits.{top, bitAt}
 use Rattle.planning.specs.Planning.{step}
 use Rattle.power_tree.specs.Tree.{Level, firstOf, nextLevel, firstLevel, pathIn, orElse, pathFrom, treePath, summandIn, stepsOf, treePlan}
-use Rattle.power_tree.specs.Stands.{TreeStands, AllStand}
 use Rattle.planning.proofs.Powers.{halves, top-low, top-max, top-mono, top-is}
 use Rattle.planning.proofs.Pushing.{Grown, Ends, Pushed, grown-none, push, chain-from-ends}
 use Rattle.power_tree.proofs.Bits.{In}
@@ -208,7 +207,12 @@ path-some n a h = some (treePath n) (tree-path n a h .good)
     some [] g = absurd g
     some (x ∷ p) g = omega arith
 
-pub tree-stands : AllStand
+-- the plan of n is a chain, no longer than that of the left to right method
+pub record ShortChain (n : ℕ) : Type 0 where
+  pub chain : Chain n (treePlan n)
+  pub short : length (treePlan n) ≤ top n + ones n - 1
+
+pub tree-stands : (n : ℕ) → 1 ≤ n → n ≤ 1024 → ShortChain n
 tree-stands n a h =
     let p = tree-path n a h in
     let first = p .first in

@@ -7,9 +7,8 @@ use Prim.Native.Nat.{ℕ, zero, suc, _+_, _-_, _<_, _≤_}
 use native.Mathlib.Numerals.{sub-one}
 use native.Mathlib.Omega.{arith}
 use lib.Dec.{leb, eqb}
-use lib.ListN.{length, getD, set, take, drop, replicate, length-append, length-take}
-use lib.Seq.{getD-take, length-take-le}
-use Rattle.std.proofs.shelf.Lists.{drop-more}
+use lib.ListN.{length, getD, set, drop, replicate, length-append}
+use Rattle.std.proofs.shelf.Lists.{drop-more, drop-all, length-push}
 use Rattle.std.proofs.shelf.Tests.{le-leb, eq-eqb}
 use Rattle.power_tree.specs.Growth.{Growth, growth, pathOnto, isOpen, hang, hangAll, turn, turns, Stage, stage, nextStage, stageAt, grownParents}
 use Rattle.power_tree.proofs.Growing.{stage-next, stage-room}
@@ -21,11 +20,10 @@ hang-open u g a h z =
     let f : eqb (getD (g .parents) (u + a) 0) 0 ≡ true = eq-eqb _ _ z in
     rw (e, f) refl
 
-pub hang-room : (ps os : List ℕ) (end u a : ℕ) → u + a ≤ 1024 → getD ps (u + a) 0 ≡ 0 → end ≤ length os → length (hang u (growth ps (take end os)) a .order) ≤ length os → end < length os
-hang-room ps os end u a h z k l =
-    let f : length (hang u (growth ps (take end os)) a .order) ≡ length (take end os ++ (u + a) ∷ []) = ap (λ (g : Growth). length (g .order)) (hang-open u (growth ps (take end os)) a h z) in
-    let n : length (take end os ++ (u + a) ∷ []) ≡ end + 1 = simp (length-append, length-take) (omega arith) in
-    omega arith
+pub hang-room : (u : ℕ) (g : Growth) (a n : ℕ) → u + a ≤ 1024 → getD (g .parents) (u + a) 0 ≡ 0 → length (hang u g a .order) ≤ n → length (g .order) < n
+hang-room u g a n h z k =
+    let f : length (hang u g a .order) ≡ length (g .order ++ (u + a) ∷ []) = ap (λ (x : Growth). length (x .order)) (hang-open u g a h z) in
+    omega (arith, length-push (g .order) (u + a))
 
 -- climbing
 pub onto-step : (most v : ℕ) (ps onto : List ℕ) → 0 < most → 0 < v → pathOnto most ps v onto ≡ pathOnto (most - 1) ps (getD ps v 0) (v ∷ onto)
@@ -60,17 +58,20 @@ turns-longer (suc n) k g =
     omega arith
 
 -- one child more
-pub all-more : (u : ℕ) (g : Growth) (path : List ℕ) (i : ℕ) → i < length path → hangAll u g (drop i path) ≡ hangAll u (hang u g (getD path i 0)) (drop (i + 1) path)
-all-more u g path i h = ap (λ (rest : List ℕ). hangAll u g rest) (drop-more path i 0 h)
+all-step : (u : ℕ) (g : Growth) (path : List ℕ) (i : ℕ) → i < length path → hangAll u g (drop i path) ≡ hangAll u (hang u g (getD path i 0)) (drop (i + 1) path)
+all-step u g path i h = ap (λ (rest : List ℕ). hangAll u g rest) (drop-more path i 0 h)
+
+pub all-more : (u : ℕ) (g next whole : Growth) (path : List ℕ) (i : ℕ) → i < length path → next ≡ hang u g (getD path i 0) → hangAll u g (drop i path) ≡ whole → hangAll u next (drop (i + 1) path) ≡ whole
+all-more u g next whole path i h e w = ap (λ (x : Growth). hangAll u x (drop (i + 1) path)) e ∙ sym (all-step u g path i h) ∙ w
+
+pub all-none : (u : ℕ) (g whole : Growth) (path : List ℕ) (i : ℕ) → length path ≤ i → hangAll u g (drop i path) ≡ whole → g ≡ whole
+all-none u g whole path i h w = ap (hangAll u g) (sym (drop-all i path h)) ∙ w
 
 pub all-room : (u : ℕ) (g whole : Growth) (path : List ℕ) (i n : ℕ) → i < length path → hangAll u g (drop i path) ≡ whole → length (whole .order) ≤ n → length (hang u g (getD path i 0) .order) ≤ n
 all-room u g whole path i n h e k =
     let l = all-longer u (hang u g (getD path i 0)) (drop (i + 1) path) in
-    let m : length (hangAll u (hang u g (getD path i 0)) (drop (i + 1) path) .order) ≡ length (whole .order) = ap (λ (s : Growth). length (s .order)) (sym (all-more u g path i h) ∙ e) in
+    let m : length (hangAll u (hang u g (getD path i 0)) (drop (i + 1) path) .order) ≡ length (whole .order) = ap (λ (s : Growth). length (s .order)) (sym (all-step u g path i h) ∙ e) in
     omega arith
-
-pub two-parts : (ps os : List ℕ) (g : Growth) → ps ≡ g .parents → os ≡ g .order → growth ps os ≡ g
-two-parts ps os g e f = ap (λ (p : List ℕ). growth p os) e ∙ ap (λ (o : List ℕ). growth (g .parents) o) f
 
 -- one turn more
 turns-more : (n k : ℕ) (g : Growth) → 0 < n → turns n k g ≡ turns (n - 1) (k + 1) (turn k g)
@@ -88,44 +89,44 @@ turns-room n k m g whole h e l =
     let i = turns-longer (n - 1) (k + 1) (turn k g) in
     omega arith
 
--- the turn of the number at place k, where the order stands in the front of a longer list
-turn-at : (ps os : List ℕ) (end k : ℕ) → k < end → turn k (growth ps (take end os)) ≡ hangAll (getD os k 0) (growth ps (take end os)) (pathOnto 19 ps (getD os k 0) [])
-turn-at ps os end k h = ap (λ (u : ℕ). hangAll u (growth ps (take end os)) (pathOnto 19 ps u [])) (getD-take end os k 0 h)
-
-pub level-more : (ps os : List ℕ) (end k to : ℕ) (next whole : Growth) → k < to → k < end → next ≡ hangAll (getD os k 0) (growth ps (take end os)) (pathOnto 19 ps (getD os k 0) [])
-    → turns (to - k) k (growth ps (take end os)) ≡ whole → turns (to - (k + 1)) (k + 1) next ≡ whole
-level-more ps os end k to next whole h i e w =
-    let g : Growth = growth ps (take end os) in
+-- the next turn of a level
+pub level-more : (g next whole : Growth) (u k to : ℕ) → k < to → u ≡ getD (g .order) k 0 → next ≡ hangAll u g (pathOnto 19 (g .parents) u []) → turns (to - k) k g ≡ whole
+    → turns (to - (k + 1)) (k + 1) next ≡ whole
+level-more g next whole u k to h e f w =
     let less : to - (k + 1) ≡ to - k - 1 = omega arith in
     ap (λ (n : ℕ). turns n (k + 1) next) less
-    ∙ ap (turns (to - k - 1) (k + 1)) (e ∙ sym (turn-at ps os end k i))
+    ∙ ap (turns (to - k - 1) (k + 1)) (f ∙ ap (λ (v : ℕ). hangAll v g (pathOnto 19 (g .parents) v [])) e)
     ∙ sym (turns-more (to - k) k g (omega arith))
     ∙ w
 
-pub level-room : (ps os : List ℕ) (end k to m : ℕ) (whole : Growth) → k < to → k < end → turns (to - k) k (growth ps (take end os)) ≡ whole → length (whole .order) ≤ m
-    → length (hangAll (getD os k 0) (growth ps (take end os)) (pathOnto 19 ps (getD os k 0) []) .order) ≤ m
-level-room ps os end k to m whole h i w l =
-    let r = turns-room (to - k) k m (growth ps (take end os)) whole (omega arith) w l in
-    let e : length (turn k (growth ps (take end os)) .order) ≡ length (hangAll (getD os k 0) (growth ps (take end os)) (pathOnto 19 ps (getD os k 0) []) .order) = ap (λ (s : Growth). length (s .order)) (turn-at ps os end k i) in
+pub level-room : (g whole : Growth) (u k to m : ℕ) → k < to → u ≡ getD (g .order) k 0 → turns (to - k) k g ≡ whole → length (whole .order) ≤ m → length (hangAll u g (pathOnto 19 (g .parents) u []) .order) ≤ m
+level-room g whole u k to m h e w l =
+    let r = turns-room (to - k) k m g whole (omega arith) w l in
+    let f : length (hangAll u g (pathOnto 19 (g .parents) u []) .order) ≡ length (turn k g .order) = ap (λ (v : ℕ). length (hangAll v g (pathOnto 19 (g .parents) v []) .order)) e in
     omega arith
+
+pub level-longer : (g next : Growth) (u : ℕ) → next ≡ hangAll u g (pathOnto 19 (g .parents) u []) → length (g .order) ≤ length (next .order)
+level-longer g next u e = let f = ap (λ (s : Growth). length (s .order)) e in omega (arith, all-longer u g (pathOnto 19 (g .parents) u []))
 
 -- one level more
-pub stage-more : (i from to : ℕ) (ps os : List ℕ) → to ≤ length os → stage (growth ps (take to os)) from ≡ stageAt i → stage (turns (to - from) from (growth ps (take to os))) to ≡ stageAt (i + 1)
-stage-more i from to ps os h e =
-    let n : length (take to os) ≡ to = length-take-le to os h in
+pub stage-more : (i from : ℕ) (g next : Growth) → stage g from ≡ stageAt i → next ≡ turns (length (g .order) - from) from g → stage next (length (g .order)) ≡ stageAt (i + 1)
+stage-more i from g next e f =
     let m : suc i ≡ i + 1 = omega arith in
-    ap (λ (x : ℕ). stage (turns (x - from) from (growth ps (take to os))) x) (sym n) ∙ ap nextStage e ∙ sym (stage-next i) ∙ ap stageAt m
+    ap (λ (x : Growth). stage x (length (g .order))) f ∙ ap nextStage e ∙ sym (stage-next i) ∙ ap stageAt m
 
-pub stage-space : (i from to : ℕ) (ps os : List ℕ) → i < 18 → to ≤ length os → stage (growth ps (take to os)) from ≡ stageAt i → length (turns (to - from) from (growth ps (take to os)) .order) ≤ 1024
-stage-space i from to ps os l h e =
+pub stage-space : (i from : ℕ) (g : Growth) → i < 18 → stage g from ≡ stageAt i → length (turns (length (g .order) - from) from g .order) ≤ 1024
+stage-space i from g l e =
     let r = stage-room (i + 1) (omega arith) in
-    let f : length (turns (to - from) from (growth ps (take to os)) .order) ≡ length (stageAt (i + 1) .tree .order) = ap (λ (s : Stage). length (s .tree .order)) (stage-more i from to ps os h e) in
+    let f : length (turns (length (g .order) - from) from g .order) ≡ length (stageAt (i + 1) .tree .order) = ap (λ (s : Stage). length (s .tree .order)) (stage-more i from g (turns (length (g .order) - from) from g) e refl) in
     omega arith
+
+pub stage-longer : (from : ℕ) (g next : Growth) → next ≡ turns (length (g .order) - from) from g → length (g .order) ≤ length (next .order)
+stage-longer from g next e = let f = ap (λ (s : Growth). length (s .order)) e in omega (arith, turns-longer (length (g .order) - from) from g)
 
 pub stage-first : stage (growth (replicate 1025 0) (1 ∷ [])) 0 ≡ stageAt 0
 unfolding stageAt
 stage-first = refl
 
-pub stage-last : (ps os : List ℕ) (from i : ℕ) → i ≡ 18 → stage (growth ps os) from ≡ stageAt i → ps ≡ grownParents
+pub stage-last : (g : Growth) (from i : ℕ) → i ≡ 18 → stage g from ≡ stageAt i → g .parents ≡ grownParents
 unfolding grownParents
-stage-last ps os from i h e = ap (λ (s : Stage). s .tree .parents) (e ∙ ap stageAt h)
+stage-last g from i h e = ap (λ (s : Stage). s .tree .parents) (e ∙ ap stageAt h)

@@ -1,3 +1,2 @@
 pub mod Tree
-pub mod Stands
 pub mod Growth

@@ -1,6 +1,6 @@
-//! The power tree up to 1,024: its bounds.
-//! specs/Tree has the tree by its rule, its paths, parents and plans; specs/Stands what is said of every plan;
-//! specs/Growth the tree grown over a table of parents. The proofs say that the two trees are one, and that the plans are short chains.
+//! The power tree up to 1,024: its bounds here, the tree itself in the specs.
+//! specs/Tree has the tree by its rule, with its paths, parents and plans; specs/Growth how it grows over a table of parents.
+//! The proofs say that the two are one tree, and that each plan is a chain, no longer than that of the left to right method.
 
 /// The largest number of the tree.
 pub const TOP_NUMBER: u64 = 1024;

@@ -101,12 +101,13 @@ column-next c o p out v l e lo z b b64 =
     let front : take (start c) out ≡ p = ap (take (start c)) e ∙ take-at p (drop (start c) o) (start c) l in
     let was : drop (start c) out ≡ drop (start c) o = ap (drop (start c)) e ∙ drop-at p (drop (start c) o) (start c) l in
     let end : drop (start c + width c) out ≡ drop (start c + width c) o = sym (drop-drop (width c) (start c) out) ∙ ap (drop (width c)) was ∙ drop-drop (width c) (start c) o in
-    let long : length (cell c out) ≡ width c = length-take-le (width c) (drop (start c) out) (rw was (simp length-drop (omega (arith, column-end c)))) in
-    (length-append p (field (width c) v) ∙ omega (arith, length-field (width c) v (digits-within (width c) v z b b64)),
-     ap (λ xs. xs ++ (put v (cell c out) ++ drop (start c + width c) out)) front
-     ∙ ap (λ xs. p ++ (xs ++ drop (start c + width c) out)) (put-field (width c) v (cell c out) long z b b64)
-     ∙ ap (λ xs. p ++ (field (width c) v ++ xs)) end
-     ∙ sym (append-assoc p (field (width c) v) (drop (start c + width c) o)))
+    let long : length (cell c out) ≡ width c = length-take-le (width c) (drop (start c) out) (rw was (simp length-drop (omega (arith, column-end c)))) in (
+      length-append p (field (width c) v) ∙ omega (arith, length-field (width c) v (digits-within (width c) v z b b64)),
+      ap (λ xs. xs ++ (put v (cell c out) ++ drop (start c + width c) out)) front
+          ∙ ap (λ xs. p ++ (xs ++ drop (start c + width c) out)) (put-field (width c) v (cell c out) long z b b64)
+          ∙ ap (λ xs. p ++ (field (width c) v ++ xs)) end
+          ∙ sym (append-assoc p (field (width c) v) (drop (start c + width c) o)),
+    )
 
 -- a line, when each of its columns is written and then its newline
 pub line-wrote : (o o1 o2 o3 o4 : List ℕ) (i : ℕ) (s : Step) → length o ≡ lineBytes → i < 10 ^ 4 → Writable s → o1 ≡ putCell Number i o → o2 ≡ putCell First (s .j) o1 → o3 ≡ putCell Second (s .k) o2 → o4 ≡ putCell Value (s .value) o3 → set o4 31 newline ≡ line i s

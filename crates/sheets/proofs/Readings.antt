@@ -21,16 +21,6 @@ use Rattle.std.proofs.shelf.Lists.{drop-more, set-at, append-assoc}
 fault-step : (n i : ℕ) (t : List ℕ) → i < n → firstFault (n - i) i t ≡ orNext i (lineIn i t) (firstFault (n - (i + 1)) (i + 1) t)
 fault-step n i t h = ap (λ k. firstFault k i t) {x = n - i} {y = suc (n - (i + 1))} (omega arith)
 
-pub fault-here : (n i : ℕ) (t : List ℕ) (f : Fault) → i < n → Err f ≡ lineIn i t → firstFault (n - i) i t ≡ Some (record { before = i; fault = f })
-fault-here n i t f h e = fault-step n i t h ∙ ap (λ r. orNext i r (firstFault (n - (i + 1)) (i + 1) t)) (sym e)
-
-is-ok : (i : ℕ) (r : Result Step Fault) (next : Option Found) → ((f : Fault) → r ≡ Err f → ⊥) → orNext i r next ≡ next
-is-ok i (Ok s) next no-fault = refl
-is-ok i (Err f) next no-fault = elim (no-fault f refl) [ ]
-
-pub fault-next : (n i : ℕ) (t : List ℕ) → i < n → ((f : Fault) → lineIn i t ≡ Err f → ⊥) → firstFault (n - i) i t ≡ firstFault (n - (i + 1)) (i + 1) t
-fault-next n i t h e = fault-step n i t h ∙ is-ok i (lineIn i t) (firstFault (n - (i + 1)) (i + 1) t) e
-
 -- ---- the steps
 pub length-steps : (n i : ℕ) (t : List ℕ) → length (stepsFrom n i t) ≡ n
 length-steps zero i t = refl

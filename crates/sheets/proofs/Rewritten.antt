@@ -79,13 +79,15 @@ line-back i b s l e =
     let w1 = column-back i Number b (a1 .0) l (a1 .1) in
     let w2 = column-back i First b (a2 .0) l (a2 .1) in
     let w3 = column-back i Second b (a3 .0) l (a3 .1) in
-    let w4 = column-back i Value b (a4 .0) l (a4 .1) in
-    (sym (ap (λ n. line n r) n-is ∙ ap (line i) s-is)
-    ∙ ap (λ xs. xs ++ (field 4 (a2 .0) ++ (field 4 (a3 .0) ++ (field 19 (a4 .0) ++ (newline ∷ []))))) (w1 .0)
-    ∙ ap (λ xs. cell Number b ++ (xs ++ (field 4 (a3 .0) ++ (field 19 (a4 .0) ++ (newline ∷ []))))) (w2 .0)
-    ∙ ap (λ xs. cell Number b ++ (cell First b ++ (xs ++ (field 19 (a4 .0) ++ (newline ∷ []))))) (w3 .0)
-    ∙ ap (λ xs. cell Number b ++ (cell First b ++ (cell Second b ++ (xs ++ (newline ∷ []))))) (w4 .0)
-    ∙ parts b l (eqb-true (getD b 31 0) newline (c0 .0)), subst Writable s-is (w2 .1, w3 .1, w4 .1))
+    let w4 = column-back i Value b (a4 .0) l (a4 .1) in (
+      sym (ap (λ n. line n r) n-is ∙ ap (line i) s-is)
+          ∙ ap (λ xs. xs ++ (field 4 (a2 .0) ++ (field 4 (a3 .0) ++ (field 19 (a4 .0) ++ (newline ∷ []))))) (w1 .0)
+          ∙ ap (λ xs. cell Number b ++ (xs ++ (field 4 (a3 .0) ++ (field 19 (a4 .0) ++ (newline ∷ []))))) (w2 .0)
+          ∙ ap (λ xs. cell Number b ++ (cell First b ++ (xs ++ (field 19 (a4 .0) ++ (newline ∷ []))))) (w3 .0)
+          ∙ ap (λ xs. cell Number b ++ (cell First b ++ (cell Second b ++ (xs ++ (newline ∷ []))))) (w4 .0)
+          ∙ parts b l (eqb-true (getD b 31 0) newline (c0 .0)),
+      subst Writable s-is (w2 .1, w3 .1, w4 .1),
+    )
 
 -- ---- a text that was read
 next-ok : (i : ℕ) (r : Result Step Fault) (next : Option Found) → orNext i r next ≡ None → (r ≡ Ok (stepOf r)) × (next ≡ None)
@@ -99,11 +101,12 @@ sheet-back (suc n) i t l e =
     let o = next-ok i (lineIn i t) (firstFault n (i + 1) t) e in
     let long : length (lineAt i t) ≡ lineBytes = length-take-le lineBytes (drop (lineBytes * i) t) (simp length-drop (omega arith)) in
     let b = line-back (i + 1) (lineAt i t) (stepOf (lineIn i t)) long (o .0) in
-    let r = sheet-back n (i + 1) t (omega arith) (o .1) in
-    (ap (λ xs. xs ++ sheetFrom (i + 1) (stepsFrom n (i + 1) t)) (b .0)
-     ∙ ap (λ xs. lineAt i t ++ xs) (r .0)
-     ∙ sym (split-at lineBytes t (lineBytes * i) (lineBytes * (i + 1)) (omega arith)),
-     all-cons (stepOf (lineIn i t)) (stepsFrom n (i + 1) t) (b .1) (r .1))
+    let r = sheet-back n (i + 1) t (omega arith) (o .1) in (
+      ap (λ xs. xs ++ sheetFrom (i + 1) (stepsFrom n (i + 1) t)) (b .0)
+          ∙ ap (λ xs. lineAt i t ++ xs) (r .0)
+          ∙ sym (split-at lineBytes t (lineBytes * i) (lineBytes * (i + 1)) (omega arith)),
+      all-cons (stepOf (lineIn i t)) (stepsFrom n (i + 1) t) (b .1) (r .1),
+    )
 
 -- ---- what reading comes to
 -- n lines have their bytes, and are no more than allowed
@@ -144,8 +147,11 @@ pub record Outcome (t : List ℕ) (m : ℕ) (was : List Step) (r : Result ℕ Re
 refused : (t : List ℕ) (m : ℕ) (was : List Step) (e : Refusal) (p : Place) → readSheet t m ≡ Err e → p ≡ standing t m → Outcome t m was (Err e) was p
 refused t m was e p r q =
     record {
-        answer = sym (ap counted r); after = sym (ap (λ x. filled x was) r); place = q; back = tt;
-        exactly = ((λ h. absurd (false≢true h)), λ s. absurd (never-sheet t m e r s))
+      answer = sym (ap counted r);
+      after = sym (ap (λ x. filled x was) r);
+      place = q;
+      back = tt;
+      exactly = ((λ h. absurd (false≢true h)), λ s. absurd (never-sheet t m e r s));
     }
 
 -- refused for its length, or for the table
@@ -166,9 +172,9 @@ outcome-read t u m n was table p same room passes fills stands =
     let f : table ≡ stepsFrom n 0 t ++ drop n was = fills ∙ ap (λ x. stepsFrom n 0 x ++ drop n was) same in
     let e : readSheet t m ≡ Ok (stepsFrom n 0 t) = ap (λ r. readLines r t) (sym room) ∙ ap (λ o. unlessFound o (stepsFrom n 0 t)) clean in
     record {
-        answer = ap Ok (sym l) ∙ sym (ap counted e);
-        after = f ∙ ap (λ k. stepsFrom n 0 t ++ drop k was) (sym l) ∙ sym (ap (λ r. filled r was) e);
-        place = stands ∙ sym (ap (λ r. standIn r t) (sym room) ∙ ap (stand n) clean);
-        exactly = ((λ _. s), λ _. refl);
-        back = ap (λ xs. sheet (take n xs)) f ∙ ap sheet (take-at (stepsFrom n 0 t) (drop n was) n l) ∙ sheet-back n 0 t (whole-lines (length t) n m room .0) clean .0
+      answer = ap Ok (sym l) ∙ sym (ap counted e);
+      after = f ∙ ap (λ k. stepsFrom n 0 t ++ drop k was) (sym l) ∙ sym (ap (λ r. filled r was) e);
+      place = stands ∙ sym (ap (λ r. standIn r t) (sym room) ∙ ap (stand n) clean);
+      exactly = ((λ _. s), λ _. refl);
+      back = ap (λ xs. sheet (take n xs)) f ∙ ap sheet (take-at (stepsFrom n 0 t) (drop n was) n l) ∙ sheet-back n 0 t (whole-lines (length t) n m room .0) clean .0;
     }

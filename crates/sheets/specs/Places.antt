@@ -58,18 +58,24 @@ faultPlace t = standIn (textLines (length t)) t
 abbrev pub columnStart : ℕ → Column → ℕ
 columnStart i c = lineBytes * i + start c
 
--- the part of a text that the column at a place fills
+-- the part of a text that a column of the line at i fills
 abbrev pub partIn : ℕ → Option Column → List ℕ → Option (List ℕ)
 partIn i None t = None
 partIn i (Some c) t = Some (take (width c) (drop (columnStart i c) t))
 
+-- the part of a text that the column at a place fills
 abbrev pub part : Place → List ℕ → Option (List ℕ)
 part p t = partIn (p .line) (p .column) t
 
--- the byte of the text at which that part begins
+-- the byte of a text at which the part of a line's column begins
 abbrev pub offsetIn : ℕ → Option Column → ℕ
 offsetIn i None = 0
 offsetIn i (Some c) = columnStart i c
 
+-- the byte of a text at which the part of the column at a place begins
 abbrev pub offset : Place → ℕ
 offset p = offsetIn (p .line) (p .column)
+
+-- the part of a text that its field at fault fills
+abbrev pub fieldAtFault : List ℕ → Option (List ℕ)
+fieldAtFault t = part (faultPlace t) t

@@ -14,7 +14,7 @@ ghost use Rattle.sheets.specs.declared.column.Column.{Column};
 ghost use Rattle.sheets.specs.Lines.{lineBytes};
 ghost use Rattle.sheets.specs.Sheets.{sheet, IsSheet};
 ghost use Rattle.sheets.specs.Reading.{lineIn, firstFault, stepsFrom, readSheet, counted, filled, told, passed};
-ghost use Rattle.sheets.specs.Places.{placeOf, outset, moved, stand, standing, faultPlace, part, offset};
+ghost use Rattle.sheets.specs.Places.{placeOf, outset, moved, stand, standing, faultPlace, fieldAtFault, part, offset};
 use crate::column::Column;
 use crate::line::LINE_BYTES;
 use crate::line::read_line;
@@ -101,7 +101,7 @@ impl<'a> SheetReader<'a> {
         }
     }
 
-    /// Reads the text into the first places of the table, and answers how many steps there are.
+    /// Reads the text's steps into the first places of the table, and answers how many they are. A refused text leaves the table as it was.
     pub fn read(&mut self, table: &mut [Step]) -> Result<usize, Refusal>
         ensures answer { λ r. ⌜ r ≡ counted (readSheet (now (now (self .entry) .text)) (length (now (table .entry)))) ⌝ }
         ensures after { λ _. ⌜ now (table .exit) ≡ filled (readSheet (now (now (self .entry) .text)) (length (now (table .entry)))) (now (table .entry)) ⌝ }
@@ -133,9 +133,10 @@ impl<'a> SheetReader<'a> {
         Some(&text[from..from + size])
     }
 
-    /// The field at which the text's first fault is a refusal, as the part of the text that it fills, or nothing where that fault is another or there is none.
+    /// The field at fault, as the part of the text that it fills, where the first fault of the text is a malformed field or a
+    /// wrong step number; nothing where it is another, or there is none.
     pub fn field_at_fault(&self) -> Option<&'a [u8]>
-        ensures part { λ r. ⌜ mapped now r ≡ part (faultPlace (now (now (self .entry) .text))) (now (now (self .entry) .text)) ⌝ }
+        ensures part { λ r. ⌜ mapped now r ≡ fieldAtFault (now (now (self .entry) .text)) ⌝ }
         ensures position { λ r. ⌜ found r (λ x. ptr x ≡ (ptr (now (self .entry) .text) .0, ptr (now (self .entry) .text) .1 + offset (faultPlace (now (now (self .entry) .text))))) ⌝ }
     {
         let text = self.text;

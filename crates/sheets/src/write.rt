@@ -11,7 +11,7 @@ use crate::line::write_line;
 use plans::Plan;
 use refusals::Refusal;
 
-/// Writes the plan's sheet into the first bytes of `out`, and answers how many those are.
+/// Writes the plan's sheet into the first bytes of `out`, and answers how many those are. Where `out` is too short it stays as it was.
 pub fn write_sheet(plan: &Plan<'_>, out: &mut [u8]) -> Result<usize, Refusal>
     ensures answer { λ r. ⌜ r ≡ wrote (now (now (plan .entry) .steps)) (length (now (out .entry))) ⌝ }
     ensures after { λ _. ⌜ now (out .exit) ≡ written (now (now (plan .entry) .steps)) (now (out .entry)) ⌝ }

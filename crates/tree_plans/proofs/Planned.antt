@@ -5,7 +5,7 @@ use mathlib.Core.List.{List, [], _++_}
 use Prim.Native.Nat.{ℕ, _+_, _-_, _<_, _≤_}
 use native.Mathlib.Omega.{arith}
 use lib.Dec.{leb}
-use lib.ListN.{length, getD, take, drop, List·getD-append}
+use lib.ListN.{length, getD, take, drop, length-take, List·getD-append}
 use Rattle.std.proofs.shelf.Lists.{length-drop, take-all, take-at, drop-at}
 use Rattle.std.proofs.shelf.Tests.{le-leb}
 use Rattle.std.specs.declared.result.Result.{Result}
@@ -32,9 +32,19 @@ climbed n at path parents l e t a b =
 pub path-length : (n : ℕ) (path : List ℕ) → path ≡ turned (treePath n) [] → 1 ≤ n → n ≤ 1024 → 1 ≤ length path
 path-length n path e a b = let l = ap length e in omega (arith, turned-length (treePath n) [], path-some n a b)
 
+pub path-most : (at : ℕ) (path : List ℕ) → length (take (19 - at) (drop at path)) ≤ 19
+path-most at path = simp length-take (omega arith)
+
 -- the steps of that path are the plan
-pub path-plan : (n : ℕ) (path : List ℕ) → path ≡ turned (treePath n) [] → stepsOf (turned path []) ≡ treePlan n
+path-plan : (n : ℕ) (path : List ℕ) → path ≡ turned (treePath n) [] → stepsOf (turned path []) ≡ treePlan n
 path-plan n path e = ap (λ (p : List ℕ). stepsOf (turned p [])) e ∙ ap stepsOf (turned-twice (treePath n))
+
+pub table-plan : (n : ℕ) (path : List ℕ) (was now : List Step) → path ≡ turned (treePath n) [] → now ≡ stepsOf (turned path []) ++ drop (length (stepsOf (turned path []))) was
+    → now ≡ treePlan n ++ drop (length (treePlan n)) was
+table-plan n path was now e w = w ∙ ap (λ (plan : List Step). plan ++ drop (length plan) was) (path-plan n path e)
+
+pub count-plan : (n len : ℕ) (path : List ℕ) → path ≡ turned (treePath n) [] → len ≡ length (stepsOf (turned path [])) → len ≡ length (treePlan n)
+count-plan n len path e w = w ∙ ap length (path-plan n path e)
 
 -- a request that is granted
 pub granted : (n steps parents : ℕ) (plan : List Step) → Ok tt ≡ request (leb n 1024) n steps → 1025 ≤ parents → Ok (length plan) ≡ lengthOr (treeRequest n steps parents) plan

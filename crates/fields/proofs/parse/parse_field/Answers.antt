@@ -1,6 +1,5 @@
 use native.Mathlib.Omega.{arith}
 use mathlib.Core.Path.{sym, _∙_, ap}
-use mathlib.Core.Logic.{⊎-elim}
 use Prim.Native.Nat.{_<_}
 use lib.ListN.{length}
 use Rattle.fields.specs.Field.{numeralValue}
@@ -24,9 +23,13 @@ loop-k-holds c =
     let h : c .blanks-i .result < length (c .args .b .now) = omega arith in
     (pow-some (c .blanks-i .result), ap numeralValue (c .blanks-i .ensures .skipped) ∙ begins (c .args .b .now) (c .blanks-i .result) h (c .blanks-i .ensures .stops h) (λ e. omega arith))
 
-pub returns-then-c-lt48 : need.returns-then-c-lt48
-returns-then-c-lt48 c =
-    record { value = sym (narrow (c .args .b .now) (omega arith) ∙ c .loop-k .inv .1 ∙ stops (c .args .b .now) (c .loop-k .v) (c .loop-k .k) (c .loop-k-test .taken) (λ l m. ⊎-elim (λ e. omega arith) (λ e. omega arith) (c .then-c-lt48 .either))) }
+pub returns-in-rest : need.returns-in-rest
+returns-in-rest c =
+    record { value = sym (narrow (c .args .b .now) (omega arith) ∙ c .loop-k .inv .1 ∙ stops (c .args .b .now) (c .loop-k .v) (c .loop-k .k) (c .loop-k-test .taken) (λ l m. omega arith)) }
+
+pub returns-in-rest·2 : need.returns-in-rest·2
+returns-in-rest·2 c =
+    record { value = sym (narrow (c .args .b .now) (omega arith) ∙ c .loop-k .inv .1 ∙ stops (c .args .b .now) (c .loop-k .v) (c .loop-k .k) (c .loop-k-test .taken) (λ l m. omega arith)) }
 
 pub mul-v : need.mul-v
 mul-v c = omega (arith, room (c .loop-k .v) (c .loop-k .k) (c .loop-k .inv .0), below (c .loop-k .k) (omega arith))

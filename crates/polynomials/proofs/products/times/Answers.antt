@@ -1,5 +1,6 @@
 use mathlib.Core.Path.{_≡_, refl, sym, ap, subst, _∙_}
 use Prim.Native.Nat.{ℕ, suc, _+_, _-_, _*_, _/_, _%_, _^_, _<_, _≤_}
+use native.Mathlib.Nat.{div-eq-of-lt}
 use native.Mathlib.Omega.{arith}
 use lib.Bits.{bitXor}
 use lib.ListN.{getD}
@@ -11,7 +12,7 @@ use Rattle.polynomials.proofs.products.times.Needs as need
 
 pub loop-i-holds : need.loop-i-holds
 loop-i-holds c =
-    let e : c .args .b / 2 ^ 64 ≡ 0 = omega arith in
+    let e : c .args .b / 2 ^ (4 * c .args .parts) ≡ 0 = div-eq-of-lt (c .pre .1 .1) in
     sym (ap (times (c .args .a)) e ∙ times-zero (c .args .a))
 
 pub mul-product : need.mul-product

@@ -20,5 +20,5 @@ returns-in-Break-check c =
 pub returns : need.returns
 returns c =
     let o = outcome-read (c .args .self .now .text .now) _ (length (c .args .table .now)) (c .in-Continue-lines .lines) (c .args .table .now) _ _
-            (ap (λ r. r .now) (c .check .ensures .text)) (c .in-Continue-lines .ensures tt .value) (c .in-Continue-check .ensures tt .answer) (c .fill .ensures .after) (c .fill .ensures .place) in
+    (ap (λ r. r .now) (c .check .ensures .text)) (c .in-Continue-lines .ensures tt .value) (c .in-Continue-check .ensures tt .answer) (c .fill .ensures .after) (c .fill .ensures .place) in
     record { answer = o .answer; after = o .after; exactly = o .exactly; text = c .fill .ensures .text ∙ c .check .ensures .text; place = o .place; back = o .back }

@@ -1,0 +1,68 @@
+use mathlib.Core.Path.{_≡_, refl, sym, ap, subst, _∙_}
+use mathlib.Core.List.{List}
+use Prim.Native.Nat.{ℕ, _-_, _≤_}
+use lib.ListN.{length, take}
+use borrow.Author.Needs.{needs}
+use Rattle.std.specs.declared.result.Result.{Result}
+use Rattle.std.specs.declared.result.Result.the-variants.{Ok, Err}
+use Rattle.refusals.specs.declared.refusal.Refusal.{Refusal}
+use Rattle.plans.specs.declared.step.Step.{Step}
+use Rattle.sheets.specs.Reading.{readSheet, counted, filled}
+use Rattle.calls.specs.declared.stage.Stage.the-variants.{Reading, Admission, Running}
+use Rattle.calls.proofs.Stages.{read-is, read-fits, on-ok, stopped-answer, stopped-after, ran-answer, ran-after, kept-on}
+use Rattle.calls.proofs.jobs.job.Needs as need
+
+pub part-admit-end : need.part-admit-end
+part-admit-end g c =
+    let table : List Step = c .args .table .now in
+    let fits : c .in-Continue-count .count ≤ length (c .read .last .table) =
+    read-fits (readSheet (c .new-reader .result .text .now) (length table)) table (c .read .last .table) (c .read .result) (c .in-Continue-count .count)
+    (c .read .ensures .answer) (c .in-Continue-count .ensures tt .value) (c .read .ensures .after) in
+    search needs
+
+pub returns-in-Break-at-stage : need.returns-in-Break-at-stage
+returns-in-Break-at-stage g c =
+    let u = c .args .unit .now in
+    let m = g .U·Kind .kind u in
+    let s = g .U·Unit .state u in
+    let table : List Step = c .args .table .now in
+    let sheet : Result (List Step) Refusal = readSheet (c .args .text .now) (length table) in
+    let same : readSheet (c .new-reader .result .text .now) (length table) ≡ sheet = ap (λ t. readSheet (t .now) (length table)) (c .new-reader .ensures .text) in
+    let left : c .read .last .table ≡ filled sheet table = c .read .ensures .after ∙ ap (λ r. filled r table) same in
+    let is : sheet ≡ Ok (take (c .in-Continue-count .count - 0) (c .read .last .table)) =
+    read-is sheet table (c .read .last .table) (c .read .result) (c .in-Continue-count .count) (c .read .ensures .answer ∙ ap counted same) (c .in-Continue-count .ensures tt .value) left in
+    let e = c .in-Break-at-stage .field-0 .0 in
+    record {
+      answer = search needs;
+      after = stopped-after m s sheet (c .args .n) (c .args .base) (take (c .in-Continue-count .count - 0) (c .read .last .table)) is
+          (c .admit .result) (c .admit .ensures .answer) e (c .in-Break-at-stage .ensures tt .value) s refl;
+      table = left;
+      refused = search needs;
+      same = refl;
+    }
+
+pub returns : need.returns
+returns g c =
+    let u = c .args .unit .now in
+    let m = g .U·Kind .kind u in
+    let s = g .U·Unit .state u in
+    let n = c .args .n in
+    let table : List Step = c .args .table .now in
+    let sheet : Result (List Step) Refusal = readSheet (c .args .text .now) (length table) in
+    let same : readSheet (c .new-reader .result .text .now) (length table) ≡ sheet = ap (λ t. readSheet (t .now) (length table)) (c .new-reader .ensures .text) in
+    let left : c .read .last .table ≡ filled sheet table = c .read .ensures .after ∙ ap (λ r. filled r table) same in
+    let steps : List Step = take (c .in-Continue-count .count - 0) (c .read .last .table) in
+    let is : sheet ≡ Ok steps =
+    read-is sheet table (c .read .last .table) (c .read .result) (c .in-Continue-count .count) (c .read .ensures .answer ∙ ap counted same) (c .in-Continue-count .ensures tt .value) left in
+    let held = on-ok Admission (c .admit .result) (c .in-Continue-at-stage .field-0)
+    (λ _. (c .admit .last .self .exponent ≡ n) × (c .admit .last .self .steps .now ≡ steps)) (λ _. c .admit .last .self ≡ c .one-plan .result)
+    (c .in-Continue-at-stage .ensures tt .value) (c .admit .ensures .after) in
+    record {
+      answer = ran-answer m s sheet n (c .args .base) steps is (c .admit .result) (c .admit .ensures .answer) (c .in-Continue-at-stage .field-0) (c .in-Continue-at-stage .ensures tt .value)
+          (c .admit .last .self .exponent) (c .admit .last .self .steps .now) (held .0) (held .1) (c .run .result) (c .run .ensures .answer) (c .at-stage-3 .result) (c .at-stage-3 .ensures .value);
+      after = ran-after m s sheet n (c .args .base) steps is (c .admit .result) (c .admit .ensures .answer) (c .in-Continue-at-stage .field-0) (c .in-Continue-at-stage .ensures tt .value)
+          (c .admit .last .self .exponent) (c .admit .last .self .steps .now) (held .0) (held .1) (c .run .result) (c .run .ensures .answer) (g .U·Unit .state (c .run .last .unit)) (c .run .ensures .after);
+      table = left;
+      refused = kept-on Running (c .run .result) (c .at-stage-3 .result) u (c .run .last .unit) (c .at-stage-3 .ensures .value) (c .run .ensures .refused);
+      same = c .run .ensures .same;
+    }
