@@ -118,3 +118,29 @@ pub kept-on : {X A : Type 0} (g : Stage) (r : Result X Refusal) (w : Result X Jo
 kept-on {X} {A} g r w old new told h =
     subst (λ (z : Result X JobRefusal). Unchanged z old new) (sym told)
     (elim r as (λ q. Unchanged q old new → Unchanged (staged g q) old new) [ Ok y ↦ λ p. p | Err e ↦ λ p. p ] h)
+
+-- a job whose sheet is not read: it answers reading's refusal, and came to run no plan
+module _ {V : Type 0} (m : Meaning V) (s : State V) (n : ℕ) (x : V) (a : Result ℕ Refusal) (e : JobRefusal) where
+  pub unread-answer : (sheet : Result (List Step) Refusal) → a ≡ counted sheet → Err e ≡ staged Reading a → jobAnswer m s sheet n x ≡ Err e
+  unread-answer (Ok steps) said on =
+      let q : Err e ≡ Ok (length steps) = on ∙ ap (staged Reading) said in
+      let z : _≡_ {A = ℕ} 0 1 = cc in
+      let no : ⊥ = omega arith in
+      absurd no
+  unread-answer (Err f) said on =
+      let q : _≡_ {A = Result ℕ JobRefusal} (Err e) (Err (record { stage = Reading; refusal = f })) = on ∙ ap (staged Reading) said in
+      let same : e ≡ record { stage = Reading; refusal = f } = cc in
+      ap (λ (y : JobRefusal). Err y) (sym same)
+
+  pub unread-after : (sheet : Result (List Step) Refusal) → a ≡ counted sheet → Err e ≡ staged Reading a → Jobbed m s n x (jobPlan sheet n) s
+  unread-after (Ok steps) said on =
+      let q : Err e ≡ Ok (length steps) = on ∙ ap (staged Reading) said in
+      let z : _≡_ {A = ℕ} 0 1 = cc in
+      let no : ⊥ = omega arith in
+      absurd no
+  unread-after (Err f) said on = refl
+
+-- an answer that is a refusal leaves what it had
+pub unchanged-err : {X E A : Type 0} (r : Result X E) (e : E) (u : A) → r ≡ Err e → Unchanged r u u
+unchanged-err (Ok y) e u h = tt
+unchanged-err (Err f) e u h = refl

@@ -46,7 +46,7 @@ fn digits_length(n: u64, width: u32) -> u64 {
     }
     let bits = u64::from(width).saturating_mul(lower).saturating_add(lower);
     let skipped = u64::from(width).saturating_sub(1).saturating_sub(top(rest));
-    (m - 2)
+    m.saturating_sub(2)
         .saturating_add(bits)
         .saturating_sub(zeros)
         .saturating_sub(skipped)
@@ -69,26 +69,38 @@ fn has_length(method: Method, n: u64, length: u64) -> bool {
     }
 }
 
-// Trims the plan, and answers the new length if what is left is admitted.
-fn trimmed_length(plan: &Plan<'_>, table: &mut [Step]) -> Option<usize> {
-    let length = trim(plan, table).ok()?;
+// Whether the first steps of a table are a plan of n.
+fn is_plan(n: u64, table: &[Step], length: usize) -> bool {
+    if length > table.len() {
+        return false;
+    }
+    let mut plan = Plan::one();
+    plan.admit(n, &table[0..length]).is_ok()
+}
+
+// Trims the first steps of a table, which are a plan of n, into another, and answers the new length.
+fn trimmed_length(n: u64, table: &[Step], length: usize, trimmed: &mut [Step]) -> Option<usize> {
     if length > table.len() {
         return None;
     }
-    let mut again = Plan::one();
-    again.admit(plan.exponent(), &table[0..length]).ok()?;
-    Some(length)
+    let mut plan = Plan::one();
+    let admitted = plan.admit(n, &table[0..length]);
+    if admitted.is_err() {
+        return None;
+    }
+    trim(&plan, trimmed).ok()
 }
 
 // Plans, admits and trims one exponent; answers whether the plan lost steps, or nothing where something is wrong.
 fn try_one(method: Method, n: u64, tables: &mut Tables) -> Option<bool> {
     let length = method.plan(n, &mut tables.steps, &mut tables.parents).ok()?;
-    if length > MOST_STEPS || !has_length(method, n, length as u64) {
+    if !has_length(method, n, length as u64) || !is_plan(n, &tables.steps, length) {
         return None;
     }
-    let mut plan = Plan::one();
-    plan.admit(n, &tables.steps[0..length]).ok()?;
-    let left = trimmed_length(&plan, &mut tables.trimmed)?;
+    let left = trimmed_length(n, &tables.steps, length, &mut tables.trimmed)?;
+    if !is_plan(n, &tables.trimmed, left) {
+        return None;
+    }
     Some(left < length)
 }
 

@@ -8,8 +8,10 @@ use Rattle.std.specs.declared.result.Result.the-variants.{Ok, Err}
 use Rattle.refusals.specs.declared.refusal.Refusal.{Refusal}
 use Rattle.plans.specs.declared.step.Step.{Step}
 use Rattle.sheets.specs.Reading.{readSheet, counted, filled}
+use Rattle.std.proofs.shelf.Results.{err-from-errBy}
+use Rattle.calls.specs.declared.job_refusal.JobRefusal.{JobRefusal}
 use Rattle.calls.specs.declared.stage.Stage.the-variants.{Reading, Admission, Running}
-use Rattle.calls.proofs.Stages.{read-is, read-fits, on-ok, stopped-answer, stopped-after, ran-answer, ran-after, kept-on}
+use Rattle.calls.proofs.Stages.{read-is, read-fits, unread-answer, unread-after, unchanged-err, on-ok, stopped-answer, stopped-after, ran-answer, ran-after, kept-on}
 use Rattle.calls.proofs.jobs.job.Needs as need
 
 pub part-admit-end : need.part-admit-end
@@ -19,6 +21,27 @@ part-admit-end g c =
     read-fits (readSheet (c .new-reader .result .text .now) (length table)) table (c .read .last .table) (c .read .result) (c .in-Continue-count .count)
     (c .read .ensures .answer) (c .in-Continue-count .ensures tt .value) (c .read .ensures .after) in
     search needs
+
+pub returns-in-Break-count : need.returns-in-Break-count
+returns-in-Break-count g c =
+    let u = c .args .unit .now in
+    let m = g .U·Kind .kind u in
+    let s = g .U·Unit .state u in
+    let table : List Step = c .args .table .now in
+    let sheet : Result (List Step) Refusal = readSheet (c .args .text .now) (length table) in
+    let same : readSheet (c .new-reader .result .text .now) (length table) ≡ sheet = ap (λ t. readSheet (t .now) (length table)) (c .new-reader .ensures .text) in
+    let said : c .read .result ≡ counted sheet = c .read .ensures .answer ∙ ap counted same in
+    let e : JobRefusal = c .in-Break-count .field-0 .0 in
+    let on = c .in-Break-count .ensures tt .value in
+    let p = err-from-errBy (c .from-residual .result) (c .from-residual .ensures .1) in
+    let is = p .1 ∙ ap (λ (y : JobRefusal). Err y) (p .2) in
+    record {
+      answer = is ∙ sym (unread-answer m s (c .args .n) (c .args .base) (c .read .result) e sheet said on);
+      after = unread-after m s (c .args .n) (c .args .base) (c .read .result) e sheet said on;
+      table = c .read .ensures .after ∙ ap (λ r. filled r table) same;
+      refused = unchanged-err (c .from-residual .result) e u is;
+      same = refl;
+    }
 
 pub returns-in-Break-at-stage : need.returns-in-Break-at-stage
 returns-in-Break-at-stage g c =
