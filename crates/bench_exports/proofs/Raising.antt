@@ -1,7 +1,7 @@
 -- A power by a straight run of a chain. Assumes nothing.
 use mathlib.Core.Path.{_≡_, refl, sym, ap, _∙_}
-use mathlib.Core.Bool.{Bool, true, false, _&&_}
-use mathlib.Core.List.{List, map, _++_}
+use mathlib.Core.Bool.{Bool, true, false}
+use mathlib.Core.List.{List, _++_}
 use Prim.Native.Nat.{ℕ, _+_, _^_, _≤_}
 use native.Mathlib.Omega.{arith}
 use lib.Dec.{leb}
@@ -12,12 +12,10 @@ use Rattle.std.specs.declared.result.Result.the-variants.{Ok, Err}
 use Rattle.std.proofs.shelf.Tests.{le-leb, lt-ltb}
 use Rattle.std.proofs.shelf.Lists.{getD-append-left, getD-map}
 use Rattle.refusals.specs.declared.refusal.Refusal.{Refusal}
-use Rattle.refusals.specs.declared.refusal.Refusal.the-variants.{Exponent, NotNative, TableShort}
+use Rattle.refusals.specs.declared.refusal.Refusal.the-variants.{NotNative, TableShort}
 use Rattle.refusals.specs.Faults.{first, unless, verdict, settle, answer}
 use Rattle.plans.specs.declared.step.Step.{Step}
-use Rattle.plans.specs.Chain.{Chain, values, valueAt}
-use Rattle.planning.specs.Planning.{isExponent}
-use Rattle.kinds.specs.Kinds.{Meaning}
+use Rattle.plans.specs.Chain.{Chain, values}
 use Rattle.kinds.specs.Powers.{power}
 use Rattle.straight_runs.specs.Straight.{straightAnswer, straightAfter, straightened, powersOf}
 use Rattle.straight_runs.proofs.Straight.{powers-length, values-length}

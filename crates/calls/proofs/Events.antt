@@ -27,14 +27,14 @@ use Rattle.run_laws.proofs.Effected.{accepted-effect, refused-effect, plain-eff
 use Rattle.run_laws.proofs.Lawful.{lawful}
 use Rattle.runs.specs.declared.raised.Raised.{Raised}
 use Rattle.runs.specs.Answers.{runAnswer, Ran}
-use Rattle.calls.specs.declared.stage.Stage.{Stage}
-use Rattle.calls.specs.declared.stage.Stage.the-variants.{Running}
-use Rattle.calls.specs.declared.job_refusal.JobRefusal.{JobRefusal}
+use Rattle.jobs.specs.declared.stage.Stage.{Stage}
+use Rattle.jobs.specs.declared.stage.Stage.the-variants.{Running}
+use Rattle.jobs.specs.declared.job_refusal.JobRefusal.{JobRefusal}
 use Rattle.calls.specs.declared.call.Call.{Call}
 use Rattle.calls.specs.declared.act.Act.{Act}
 use Rattle.calls.specs.declared.act.Act.the-variants.{Load, Read, Run, Job}
 use Rattle.calls.specs.declared.act.Answer.{Answer}
-use Rattle.calls.specs.Jobs.{staged, jobAnswer, ifAdmitted, jobPlan, Jobbed}
+use Rattle.jobs.specs.Jobs.{staged, jobAnswer, ifAdmitted, jobPlan, Jobbed}
 use Rattle.calls.specs.Lists.{Bench, MadeBy, Made, Turn, turns, Performed, asks, handedOut, gives, eventOf, listAnswer}
 
 -- the answer of a list of calls

@@ -1,2 +1,1 @@
-pub mod Jobs
 pub mod Lists

@@ -25,7 +25,7 @@ use Rattle.calls.specs.declared.act.Act.{Act}
 use Rattle.calls.specs.declared.act.Act.the-variants.{Load, Read, Run, Job}
 use Rattle.calls.specs.declared.act.Answer.{Answer}
 use Rattle.calls.specs.declared.act.Answer.the-variants.{Loaded, Got, Power, Carried}
-use Rattle.calls.specs.Jobs.{jobAnswer, jobPlan, Jobbed}
+use Rattle.jobs.specs.Jobs.{jobAnswer, jobPlan, Jobbed}
 
 -- what calls work on: the unit, by its meaning, and the lent step table
 pub record Bench (V : Type 0) : Type 0 where

@@ -1,5 +1,5 @@
 //! What a call does, and what it answers.
-use crate::job_refusal::JobRefusal;
+use jobs::JobRefusal;
 use refusals::Refusal;
 use runs::Raised;
 use runs::RaisedClone;

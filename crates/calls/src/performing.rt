@@ -8,7 +8,7 @@ ghost use Rattle.calls.specs.Lists.{bench, Made, turns, Performed, events, lis
 use crate::act::Act;
 use crate::act::Answer;
 use crate::call::Call;
-use crate::jobs::job;
+use jobs::job;
 use kinds::Kind;
 use plans::Step;
 use refusals::Refusal;

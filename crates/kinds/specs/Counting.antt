@@ -1,6 +1,6 @@
 -- Counts: 0 to 2^63 - 1, whose product is the sum, capped at 2^63 - 1. Assumes nothing.
 use mathlib.Core.Bool.{Bool}
-use Prim.Native.Nat.{ℕ, _+_, _-_, _^_, min}
+use Prim.Native.Nat.{_+_, _-_, _^_, min}
 use lib.Dec.{ltb}
 use Rattle.kinds.specs.declared.counts.Count.{Count}
 use Rattle.kinds.specs.Kinds.{Meaning}

@@ -1,11 +1,10 @@
 -- The ring of polynomials with coefficients modulo 2, over numbers. Assumes nothing.
-use mathlib.Core.Path.{_≡_, refl, sym, ap, ap₂, _∙_, subst}
-use Prim.Native.Nat.{ℕ, zero, suc, _+_, _-_, _*_, _/_, _%_, _^_, _≤_, _<_}
-use native.Mathlib.Nat.{le-refl, le-of-suc-le-suc, not-suc-le-zero, zero-lt-suc, zero-mul, one-mul, mul-zero, mul-one, mul-assoc, add-zero, zero-add, mod-lt, div-add-mod'}
+use mathlib.Core.Path.{_≡_, refl, sym, ap, ap₂, _∙_}
+use Prim.Native.Nat.{ℕ, zero, suc, _*_, _/_, _%_, _≤_, _<_}
+use native.Mathlib.Nat.{le-refl, le-of-suc-le-suc, not-suc-le-zero, zero-lt-suc, zero-mul, one-mul, mul-zero, mul-one, mul-assoc, add-zero, mod-lt, div-add-mod'}
 use native.Mathlib.Decide.{le-ind}
-use native.Mathlib.Omega.{arith}
 use lib.Arith.{half-le, bin-ind}
-use lib.Bits.{bitXor, xor-assoc, xor-comm, xor-self, xor-zero-r, xor-block, xor-shr, xor-mod, xor-shifted}
+use lib.Bits.{bitXor, xor-assoc, xor-comm, xor-self, xor-block, xor-shifted}
 use Rattle.polynomial_ring.specs.Polynomials.{timesIn, times}
 
 two-pos : zero < 2

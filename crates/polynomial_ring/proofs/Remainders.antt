@@ -1,19 +1,18 @@
 -- Remainders modulo f, and the two laws of the product. Assumes nothing.
 use mathlib.Core.Path.{_≡_, refl, sym, ap, ap₂, _∙_, subst}
 use mathlib.Core.Logic.{_⊎_, inl, inr}
-use mathlib.Core.Bool.{Bool, true, false, cond}
-use Prim.Native.Nat.{ℕ, zero, suc, _+_, _-_, _*_, _/_, _%_, _^_, _≤_, _<_, pred, zero-le}
-use native.Mathlib.Nat.{le-refl, le-trans, lt-of-le-of-lt, lt-of-lt-of-le, not-le-of-lt, not-suc-le-zero, zero-lt-suc, zero-mul, one-mul, mul-zero, mul-one, mul-le-mul-right, eq-zero-or-pos, pow-suc}
+use Prim.Native.Nat.{ℕ, zero, suc, _+_, _-_, _*_, _/_, _%_, _^_, _≤_, _<_, pred}
+use native.Mathlib.Nat.{le-refl, not-le-of-lt, not-suc-le-zero, mul-le-mul-right, eq-zero-or-pos}
 use native.Mathlib.Numerals.{add-one}
 use native.Mathlib.Omega.{arith}
 use lib.Arith.{half-le, bin-ind}
 use lib.Dec.{ltb}
-use lib.Pow.{pow-pos, pow-mono, shr-shr}
-use lib.Bits.{bitXor, xor-assoc, xor-comm, xor-self, xor-zero-r, xor-block, xor-lt, xor-shifted}
+use lib.Pow.{pow-pos, pow-mono}
+use lib.Bits.{bitXor, xor-assoc, xor-comm, xor-self, xor-zero-r, xor-block, xor-lt}
 use Rattle.std.proofs.shelf.Tests.{cases-lt, cases-order, lt-ltb, le-ltb, cond-true, cond-false}
-use Rattle.polynomial_ring.specs.Polynomials.{lengthIn, top, timesIn, times, reduce, remIn, rem, product}
+use Rattle.polynomial_ring.specs.Polynomials.{lengthIn, top, times, reduce, remIn, rem, product}
 use Rattle.polynomial_ring.specs.Laws.{Highest, Remainder, Reduces}
-use Rattle.polynomial_ring.proofs.Products.{bit-lt, xor-left-comm, xor-cancel, xor4, xor-dbl, xor-split, times-zero, times-step, times-add-l, times-add-r, times-dbl-l, times-dbl-r, times-zero-l, times-one-l, times-comm, times-assoc}
+use Rattle.polynomial_ring.proofs.Products.{bit-lt, xor-cancel, xor4, xor-dbl, xor-split, times-zero, times-step, times-add-l, times-add-r, times-dbl-r, times-one-l, times-comm, times-assoc}
 
 -- ---- the place of the highest one bit
 

@@ -1,18 +1,18 @@
 -- Products four bits at a time. Assumes nothing.
-use mathlib.Core.Path.{_≡_, refl, sym, ap, ap₂, _∙_, subst}
-use mathlib.Core.Logic.{_⊎_, inl, inr}
+use mathlib.Core.Path.{_≡_, sym, ap, ap₂, _∙_, subst}
+use mathlib.Core.Logic.{inl, inr}
 use mathlib.Core.List.{List}
 use Prim.Native.Nat.{ℕ, zero, suc, _+_, _-_, _*_, _/_, _%_, _^_, _≤_, _<_}
-use native.Mathlib.Nat.{zero-mul, one-mul, mul-zero, mul-one, mul-assoc, mul-comm, add-zero, zero-add, add-suc, mod-lt, div-add-mod', mul-le-mul-right, pow-suc}
+use native.Mathlib.Nat.{zero-mul, one-mul, mul-one, mul-assoc, mul-comm, add-zero, add-suc, mod-lt, div-add-mod', mul-le-mul-right, pow-suc}
 use native.Mathlib.Omega.{arith}
 use lib.Pow.{pow-pos, pow-mono, pow-add, shr-shr, shr-le, mod-pow-add, mod-mod-pow, split}
-use lib.Bits.{bitXor, bitAnd, and-mask, xor-assoc, xor-comm, xor-zero-l, xor-zero-r, xor-block, xor-lt, xor-shifted, xor-self}
+use lib.Bits.{bitXor, bitAnd, and-mask, xor-assoc, xor-comm, xor-zero-r, xor-block, xor-lt, xor-shifted, xor-self}
 use lib.ListN.{length, getD, set}
 use Rattle.std.proofs.shelf.Lists.{getD-set-same, getD-set-other, length-set}
-use Rattle.std.proofs.shelf.Tests.{cases-eq, cases-lt}
-use Rattle.polynomial_ring.specs.Polynomials.{times, reduce, rem, top, product}
-use Rattle.polynomial_ring.proofs.Products.{bit-lt, xor-dbl, times-zero, times-step, times-add-l, times-add-r, times-dbl-l, times-dbl-r, times-zero-l, times-one-l, times-comm, times-assoc}
-use Rattle.polynomial_ring.proofs.Remainders.{Same, top-bounds, xor-top, rem-lt, rem-add, rem-dbl, rem-below, rem-of, rem-same}
+use Rattle.std.proofs.shelf.Tests.{cases-eq}
+use Rattle.polynomial_ring.specs.Polynomials.{times, reduce, rem, top}
+use Rattle.polynomial_ring.proofs.Products.{times-zero, times-step, times-add-l, times-add-r, times-dbl-r, times-one-l, times-comm, times-assoc}
+use Rattle.polynomial_ring.proofs.Remainders.{top-bounds, xor-top, rem-add, rem-dbl, rem-below, rem-of, rem-same}
 
 pub times-one : (a : ℕ) → times a 1 ≡ a
 times-one a = times-comm a 1 ∙ times-one-l a

@@ -1,22 +1,25 @@
 -- A straight run, step by step: after i steps the first i + 1 places hold powers, and the others are as they were. Assumes nothing.
 use mathlib.Core.Path.{_≡_, refl, sym, ap, ap₂, subst, _∙_}
-use mathlib.Core.Bool.{true, false, _&&_}
+use mathlib.Core.Bool.{true, false}
 use mathlib.Core.List.{List, [], _∷_, _++_}
 use Prim.Native.Nat.{ℕ, zero, suc, _+_, _<_, _≤_}
 use native.Mathlib.Omega.{arith}
 use native.Mathlib.Numerals.{add-one}
 use lib.ListN.{length, take, drop, getD, set, take-append-drop, length-map}
+use Rattle.std.specs.declared.option.Option.{Option}
 use Rattle.std.specs.declared.option.Option.the-variants.{Some, None}
 use Rattle.std.proofs.shelf.Lists.{getD-set-same, getD-take, getD-map, take-more, take-more-set, drop-set-lt, drop-drop, take-all}
 use Rattle.std.proofs.shelf.Tests.{lt-leb, le-leb}
+use Rattle.refusals.specs.declared.refusal.Refusal.{Refusal}
 use Rattle.refusals.specs.declared.refusal.Refusal.the-variants.{NotNative, TableShort}
+use Rattle.refusals.specs.Faults.{verdict, settle}
 use Rattle.plans.specs.declared.step.Step.{Step}
 use Rattle.plans.specs.Chain.{values, valueAt, stepAt, Chain}
 use Rattle.plans.proofs.Values.{value-suc, value-next}
 use Rattle.kinds.specs.Kinds.{Meaning, productOf}
 use Rattle.kinds.specs.Powers.{power}
 use Rattle.kinds.proofs.Powers.{Laws, power-native, power-add}
-use Rattle.straight_runs.specs.Straight.{powersOf, straightFault, straightened}
+use Rattle.straight_runs.specs.Straight.{powersOf, straightFault, straightened, straightAnswer, straightAfter}
 
 -- The first `count` places of `now` hold those of `all`, and the others what they held.
 pub record Holds {V : Type 0} (all was now : List V) (count : ℕ) : Type 0 where
@@ -114,3 +117,11 @@ fault-short m s x places h k = rw (h, lt-leb (length s + 1) places k) refl
 
 pub fault-none : {V : Type 0} (m : Meaning V) (s : List Step) (x : V) (places : ℕ) → m .native x ≡ true → length s + 1 ≤ places → straightFault m s x places ≡ None
 fault-none m s x places h k = rw (h, le-leb (length s + 1) places k) refl
+
+-- what a fault, or none, makes of the answer and of the places
+pub answer-by : {V : Type 0} (m : Meaning V) (s : List Step) (x : V) (places : ℕ) (f : Option Refusal) → straightFault m s x places ≡ f → verdict f ≡ straightAnswer m s x places
+answer-by m s x places f h = sym (ap verdict h)
+
+pub after-by : {V : Type 0} (m : Meaning V) (s : List Step) (x : V) (was : List V) (f : Option Refusal) → straightFault m s x (length was) ≡ f
+    → settle f was (straightened m s x was) ≡ straightAfter m s x was
+after-by m s x was f h = sym (ap (λ (z : Option Refusal). settle z was (straightened m s x was)) h)

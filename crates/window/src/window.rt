@@ -77,7 +77,8 @@ pub impl<U: Unit> Unit for Window<U> as WindowUnit {
         ensures kept { λ r. ⌜ (isErr r ≡ true → now (self .exit) ≡ now (self .entry)) ⌝ }
     {
         self.check_load(cell, v)?;
-        self.below.load(self.from + cell, v)
+        let place = self.from + cell;
+        self.below.load(place, v)
     }
 
     fn read(&self, cell: u8) -> Result<U::Value, Refusal>
@@ -87,7 +88,8 @@ pub impl<U: Unit> Unit for Window<U> as WindowUnit {
         if cell >= self.cells() {
             return Err(Refusal::NoSuchCell(u64::from(cell)));
         }
-        match self.below.read(self.from + cell) {
+        let place = self.from + cell;
+        match self.below.read(place) {
             Ok(v) => Ok(v),
             Err(_) => Err(Refusal::CellEmpty(u64::from(cell))),
         }
@@ -102,7 +104,9 @@ pub impl<U: Unit> Unit for Window<U> as WindowUnit {
         ensures kept { λ r. ⌜ (isErr r ≡ true → now (self .exit) ≡ now (self .entry)) ⌝ }
     {
         self.check_multiply(to, a, b)?;
-        self.below
-            .multiply(self.from + to, self.from + a, self.from + b)
+        let target = self.from + to;
+        let left = self.from + a;
+        let right = self.from + b;
+        self.below.multiply(target, left, right)
     }
 }

@@ -1,10 +1,8 @@
-use mathlib.Core.Path.{_≡_, refl, sym, ap, subst, _∙_}
-use Prim.Native.Nat.{ℕ, suc, _+_, _-_, _*_, _/_, _%_, _^_, _<_, _≤_}
+use mathlib.Core.Path.{_≡_, sym, ap, _∙_}
+use Prim.Native.Nat.{ℕ, _-_, _*_, _/_, _%_, _^_, _<_}
 use native.Mathlib.Nat.{div-eq-of-lt}
 use native.Mathlib.Omega.{arith}
 use lib.Bits.{bitXor}
-use lib.ListN.{getD}
-use lib.Pow.{pow-mono, shr-mono}
 use Rattle.polynomial_ring.specs.Polynomials.{times}
 use Rattle.polynomial_ring.proofs.Products.{times-zero}
 use Rattle.polynomial_ring.proofs.Windows.{times-lt, turn, high-part}

@@ -1,13 +1,13 @@
 use mathlib.Core.Path.{_≡_, refl, sym, ap, subst, _∙_}
-use mathlib.Core.Logic.{_⊎_, inl, inr}
+use mathlib.Core.Logic.{inl, inr}
 use mathlib.Core.List.{List, []}
-use Prim.Native.Nat.{ℕ, _+_, _*_, _^_, _<_, _≤_}
+use Prim.Native.Nat.{ℕ, _+_, _*_, _^_, _<_}
 use native.Mathlib.Omega.{arith}
 use lib.Bits.{bitXor}
 use lib.ListN.{length, getD, set}
 use Rattle.std.proofs.shelf.Lists.{getD-set-same, getD-set-other, length-set}
 use Rattle.std.proofs.shelf.Tests.{cases-eq}
-use Rattle.polynomial_ring.specs.Polynomials.{top, times, rem}
+use Rattle.polynomial_ring.specs.Polynomials.{top, rem}
 use Rattle.polynomial_ring.proofs.Remainders.{rem-lt}
 use Rattle.polynomial_ring.proofs.Windows.{entry, unit-first, unit-next}
 use Rattle.polynomials.proofs.tables.fold_rows.Needs as need

@@ -1,5 +1,5 @@
-use mathlib.Core.Path.{sym, ap}
-use Prim.Native.Nat.{ℕ, suc, _*_, _^_, _<_, _≤_}
+use mathlib.Core.Path.{sym}
+use Prim.Native.Nat.{suc, _*_, _<_}
 use native.Mathlib.Omega.{arith}
 use lib.Pow.{pow-mono}
 use Rattle.polynomial_ring.specs.Polynomials.{top}

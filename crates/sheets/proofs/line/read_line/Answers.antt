@@ -1,3 +1,4 @@
+use native.Mathlib.Omega.{arith}
 use mathlib.Core.Path.{sym}
 use Rattle.sheets.specs.declared.column.Column.the-variants.{Number, First, Second, Value}
 use Rattle.sheets.proofs.Lines.{Holds, number-held, line-ok, line-misnumbered}
@@ -15,8 +16,8 @@ held c =
 
 pub returns-then-number-i : need.returns-then-number-i
 returns-then-number-i c =
-    record { value = sym (line-misnumbered (c .args .line .now) (c .args .i) _ _ _ _ (c .if-line-ne10 .left) (held (need.at·returns-then-number-i c .In-Continue-value)) (c .if-number-i .taken)) }
+    record { value = sym (line-misnumbered (c .args .line .now) (c .args .i) _ _ _ _ (c .if-line-ne10 .left) (held (need.at·returns-then-number-i c .In-Continue-value)) (λ e. omega arith)) }
 
 pub returns : need.returns
 returns c =
-    record { value = sym (line-ok (c .args .line .now) (c .args .i) _ _ _ _ (c .if-line-ne10 .left) (held (need.at·returns c .In-Continue-value)) (c .if-number-i .left)) }
+    record { value = sym (line-ok (c .args .line .now) (c .args .i) _ _ _ _ (c .if-line-ne10 .left) (held (need.at·returns c .In-Continue-value)) (omega arith)) }

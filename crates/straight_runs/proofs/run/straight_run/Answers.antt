@@ -1,16 +1,12 @@
-use mathlib.Core.Path.{_≡_, refl, sym, ap, subst, _∙_}
-use mathlib.Core.Bool.{true}
-use mathlib.Core.List.{List}
-use Prim.Native.Nat.{ℕ, _+_, _<_, _≤_}
+use mathlib.Core.Path.{_≡_, sym, ap, _∙_}
+use Prim.Native.Nat.{_+_}
 use native.Mathlib.Omega.{arith}
 use lib.ListN.{length, set}
 use Rattle.std.specs.Options.{isSome}
 use Rattle.std.proofs.shelf.Lists.{length-set}
-use Rattle.refusals.specs.Faults.{verdict, settle}
-use Rattle.plans.specs.declared.step.Step.{Step}
 use Rattle.kinds.proofs.Powers.{Laws, powers-add}
-use Rattle.straight_runs.specs.Straight.{powersOf, straightFault, straightened}
-use Rattle.straight_runs.proofs.Straight.{Holds, from-base, to-base, turn-some, turn-next, run-done, fault-foreign, fault-short, fault-none}
+use Rattle.straight_runs.specs.Straight.{powersOf}
+use Rattle.straight_runs.proofs.Straight.{Holds, from-base, to-base, turn-some, turn-next, run-done, fault-foreign, fault-short, fault-none, answer-by, after-by}
 use Rattle.straight_runs.proofs.run.straight_run.Given as given
 use Rattle.straight_runs.proofs.run.straight_run.Needs as need
 
@@ -24,8 +20,8 @@ returns-then-not-is-native g c =
     let s = c .args .plan .now .steps .now in
     let f = fault-foreign m s (c .args .base) (length was) (sym (c .if-not-is-native .ensures tt .value)) in
     record {
-      answer = sym (ap verdict f);
-      after = sym (ap (λ z. settle z was (straightened m s (c .args .base) was)) f);
+      answer = answer-by m s (c .args .base) (length was) _ f;
+      after = after-by m s (c .args .base) was _ f;
       powers = powers-add m (laws-of g (c .args .kind .now));
     }
 
@@ -37,8 +33,8 @@ returns-then-powers-wanted g c =
     let f = fault-short m s (c .args .base) (length was) (sym (c .if-not-is-native .ensures tt .value)) (c .if-powers-wanted .taken) in
     simp (← c .steps-steps .ensures .steps)
     (record {
-      answer = sym (ap verdict f);
-      after = sym (ap (λ z. settle z was (straightened m s (c .args .base) was)) f);
+      answer = answer-by m s (c .args .base) (length was) _ f;
+      after = after-by m s (c .args .base) was _ f;
       powers = powers-add m (laws-of g (c .args .kind .now));
     })
 
@@ -84,8 +80,8 @@ returns g c =
     let none = fault-none m s x (length was) native (c .if-powers-wanted .left) in
     simp (← c .steps-steps .ensures .steps)
     (record {
-      answer = sym (ap verdict none);
+      answer = answer-by m s x (length was) _ none;
       after = run-done m (laws-of g k) x native _ s (c .steps-steps .ensures .chain) was now (c .loop-i .i) end f
-          ∙ sym (ap (λ z. settle z was (straightened m s x was)) none);
+          ∙ after-by m s x was _ none;
       powers = powers-add m (laws-of g k);
     })

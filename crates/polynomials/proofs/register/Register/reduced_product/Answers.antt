@@ -1,8 +1,8 @@
-use mathlib.Core.Path.{_≡_, refl, sym, ap, subst, _∙_}
-use Prim.Native.Nat.{ℕ, _+_, _-_, _*_, _/_, _%_, _^_, _<_, _≤_}
+use mathlib.Core.Path.{sym, ap, subst, _∙_}
+use Prim.Native.Nat.{ℕ, _+_, _*_, _^_, _<_, _≤_}
 use native.Mathlib.Omega.{arith}
 use lib.Pow.{pow-mono}
-use Rattle.polynomial_ring.specs.Polynomials.{top, rem, times, product}
+use Rattle.polynomial_ring.specs.Polynomials.{top, rem, product}
 use Rattle.polynomial_ring.proofs.Windows.{times-lt}
 use Rattle.polynomials.proofs.register.Register.reduced_product.Needs as need
 

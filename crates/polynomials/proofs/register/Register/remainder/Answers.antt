@@ -1,9 +1,9 @@
-use mathlib.Core.Path.{_≡_, refl, sym, ap, ap₂, subst, _∙_}
+use mathlib.Core.Path.{_≡_, sym, ap, ap₂, subst, _∙_}
 use Prim.Native.Nat.{ℕ, _+_, _-_, _*_, _/_, _%_, _^_, _<_, _≤_}
 use native.Mathlib.Omega.{arith}
 use mathlib.Core.List.{[]}
 use native.Mathlib.Nat.{mod-eq-of-lt}
-use lib.Bits.{bitXor, bitAnd, and-mask, xor-assoc}
+use lib.Bits.{bitXor, bitAnd, xor-assoc}
 use lib.ListN.{getD}
 use lib.Pow.{pow-pos, pow-mono, shr-lt}
 use Rattle.std.proofs.shelf.Bits.{one-shl}

@@ -20,8 +20,8 @@ returns-in-Break-check-load g c =
       kept = λ _. refl;
     }
 
-pub add-self : need.add-self
-add-self g c =
+pub add-place : need.add-place
+add-place g c =
     let q = c .args .self .now in
     let s = g .U·Unit .state (q .below) in
     let l = loads (g .U·Kind .kind (q .below)) (windowed (q .from) (q .size) s) (c .args .cell) (c .args .v) (sym (c .in-Continue-check-load .ensures tt .value)) in

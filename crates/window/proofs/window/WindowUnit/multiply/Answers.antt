@@ -20,24 +20,24 @@ returns-in-Break-check-multiply g c =
       kept = λ _. refl;
     }
 
-pub add-self : need.add-self
-add-self g c =
+pub add-target : need.add-target
+add-target g c =
     let q = c .args .self .now in
     let s = g .U·Unit .state (q .below) in
     let l = multiplies (windowed (q .from) (q .size) s) (c .args .to) (c .args .a) (c .args .b) (sym (c .in-Continue-check-multiply .ensures tt .value)) in
     let f = fits s (q .from) (q .size) (c .args .to) (l .to-there) (g .U·Unit·met .few (q .below)) in
     omega arith
 
-pub add-self-2 : need.add-self-2
-add-self-2 g c =
+pub add-left : need.add-left
+add-left g c =
     let q = c .args .self .now in
     let s = g .U·Unit .state (q .below) in
     let l = multiplies (windowed (q .from) (q .size) s) (c .args .to) (c .args .a) (c .args .b) (sym (c .in-Continue-check-multiply .ensures tt .value)) in
     let f = fits s (q .from) (q .size) (c .args .a) (l .a-there) (g .U·Unit·met .few (q .below)) in
     omega arith
 
-pub add-self-3 : need.add-self-3
-add-self-3 g c =
+pub add-right : need.add-right
+add-right g c =
     let q = c .args .self .now in
     let s = g .U·Unit .state (q .below) in
     let l = multiplies (windowed (q .from) (q .size) s) (c .args .to) (c .args .a) (c .args .b) (sym (c .in-Continue-check-multiply .ensures tt .value)) in

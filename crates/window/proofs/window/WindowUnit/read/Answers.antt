@@ -8,8 +8,8 @@ use Rattle.window.specs.Windows.{windowed}
 use Rattle.window.proofs.Windows.{fits, read-ok, read-err}
 use Rattle.window.proofs.window.WindowUnit.read.Needs as need
 
-pub add-self : need.add-self
-add-self g c =
+pub add-place : need.add-place
+add-place g c =
     let q = c .args .self .now in
     let s = g .U·Unit .state (q .below) in
     let h : c .args .cell < length (windowed (q .from) (q .size) s .cells) = omega arith in

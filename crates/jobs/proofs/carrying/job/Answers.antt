@@ -9,10 +9,10 @@ use Rattle.refusals.specs.declared.refusal.Refusal.{Refusal}
 use Rattle.plans.specs.declared.step.Step.{Step}
 use Rattle.sheets.specs.Reading.{readSheet, counted, filled}
 use Rattle.std.proofs.shelf.Results.{err-from-errBy}
-use Rattle.calls.specs.declared.job_refusal.JobRefusal.{JobRefusal}
-use Rattle.calls.specs.declared.stage.Stage.the-variants.{Reading, Admission, Running}
-use Rattle.calls.proofs.Stages.{read-is, read-fits, unread-answer, unread-after, unchanged-err, on-ok, stopped-answer, stopped-after, ran-answer, ran-after, kept-on}
-use Rattle.calls.proofs.jobs.job.Needs as need
+use Rattle.jobs.specs.declared.job_refusal.JobRefusal.{JobRefusal}
+use Rattle.jobs.specs.declared.stage.Stage.the-variants.{Reading, Admission, Running}
+use Rattle.jobs.proofs.Stages.{read-is, read-fits, unread-answer, unread-after, unchanged-err, on-ok, stopped-answer, stopped-after, ran-answer, ran-after, kept-on}
+use Rattle.jobs.proofs.carrying.job.Needs as need
 
 pub part-admit-end : need.part-admit-end
 part-admit-end g c =

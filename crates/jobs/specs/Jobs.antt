@@ -14,9 +14,9 @@ use Rattle.kinds.specs.Kinds.{Meaning}
 use Rattle.units.specs.Units.{State}
 use Rattle.runs.specs.declared.raised.Raised.{Raised}
 use Rattle.runs.specs.Answers.{runAnswer, Ran}
-use Rattle.calls.specs.declared.stage.Stage.{Stage}
-use Rattle.calls.specs.declared.stage.Stage.the-variants.{Reading, Admission, Running}
-use Rattle.calls.specs.declared.job_refusal.JobRefusal.{JobRefusal}
+use Rattle.jobs.specs.declared.stage.Stage.{Stage}
+use Rattle.jobs.specs.declared.stage.Stage.the-variants.{Reading, Admission, Running}
+use Rattle.jobs.specs.declared.job_refusal.JobRefusal.{JobRefusal}
 
 -- a job's refusal: the number and the place of a stage's fault, and that stage
 pub record Arrived : Type 0 where

@@ -19,10 +19,10 @@ use Rattle.kinds.specs.Kinds.{Meaning}
 use Rattle.units.specs.Units.{State}
 use Rattle.runs.specs.declared.raised.Raised.{Raised}
 use Rattle.runs.specs.Answers.{runAnswer, Ran, Unchanged}
-use Rattle.calls.specs.declared.stage.Stage.{Stage}
-use Rattle.calls.specs.declared.stage.Stage.the-variants.{Reading, Admission, Running}
-use Rattle.calls.specs.declared.job_refusal.JobRefusal.{JobRefusal}
-use Rattle.calls.specs.Jobs.{staged, onward, jobAnswer, ifAdmitted, jobPlan, Jobbed}
+use Rattle.jobs.specs.declared.stage.Stage.{Stage}
+use Rattle.jobs.specs.declared.stage.Stage.the-variants.{Reading, Admission, Running}
+use Rattle.jobs.specs.declared.job_refusal.JobRefusal.{JobRefusal}
+use Rattle.jobs.specs.Jobs.{staged, onward, jobAnswer, ifAdmitted, jobPlan, Jobbed}
 
 -- a stage that hands something on was not refused
 staged-ok : {X : Type 0} (g : Stage) (r : Result X Refusal) (x : X) → Ok x ≡ staged g r → r ≡ Ok x

@@ -1,6 +1,6 @@
 //! Why a job is refused.
 ghost use mathlib.Core.Path.{_≡_};
-ghost use Rattle.calls.specs.Jobs.{arrived, staged};
+ghost use Rattle.jobs.specs.Jobs.{arrived, staged};
 use crate::stage::Stage;
 use refusals::Refusal;
 
