@@ -1,6 +1,6 @@
 //! The product of two polynomials, before it is reduced: four bits of one factor at a time.
 ghost use mathlib.Core.Path.{_≡_};
-ghost use Prim.Native.Nat.{ℕ, _*_, _^_, _<_, _≤_};
+ghost use Prim.Native.Nat.{ℕ, _^_, _<_};
 ghost use lib.ListN.{getD};
 ghost use Rattle.polynomial_ring.specs.Polynomials.{times};
 
@@ -19,14 +19,14 @@ fn multiples(a: u64) -> [u128; 16]
     row
 }
 
-/// The product of a and b, as polynomials; b has at most so many parts of four bits.
-pub(crate) fn times(a: u64, b: u64, parts: u32) -> u128
-    requires { ⌜ a < 2 ^ 63 ⌝ ∗ ⌜ parts ≤ 16 ⌝ ∗ ⌜ b < 2 ^ (4 * parts) ⌝ }
+// The product of a and b, as polynomials.
+pub(crate) fn times(a: u64, b: u64) -> u128
+    requires { ⌜ a < 2 ^ 63 ⌝ }
     ensures { λ r. ⌜ r ≡ times a b ⌝ }
 {
     let row = multiples(a);
     let mut product = 0u128;
-    for i in (0..parts).rev() {
+    for i in (0..16u32).rev() {
         product = product * 16 ^ row[((b >> (4 * i)) % 16) as usize];
     }
     product

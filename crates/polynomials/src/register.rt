@@ -1,6 +1,6 @@
 //! The kind of register polynomials.
 ghost use mathlib.Core.Path.{_≡_};
-ghost use Prim.Native.Nat.{_+_, _*_, _^_, _<_, _≤_};
+ghost use Prim.Native.Nat.{_+_, _^_, _<_, _≤_};
 ghost use Rattle.std.specs.Results.{mapped};
 ghost use Rattle.refusals.specs.Faults.{answer};
 ghost use Rattle.polynomial_ring.specs.Polynomials.{top, rem, product, Reduced};
@@ -57,22 +57,14 @@ impl Register {
         self.modulus
     }
 
-    // How many parts of four bits a value has.
-    fn parts(&self) -> u32
-        ensures few { λ r. ⌜ r ≤ 16 ⌝ }
-        ensures enough { λ r. ⌜ top (now (self .entry) .modulus) ≤ 4 * r ⌝ }
-    {
-        self.degree / 4 + 1
-    }
-
-    // The remainder of p, which is below twice the degree.
+    // The remainder of p.
     fn remainder(&self, p: u128) -> u64
-        requires { ⌜ p < 2 ^ (top (now self .modulus) + top (now self .modulus)) ⌝ }
+        requires { ⌜ p < 2 ^ (64 + top (now self .modulus)) ⌝ }
         ensures { λ r. ⌜ r ≡ rem (now (self .entry) .modulus) p ⌝ }
     {
         let high = (p >> self.degree) as u64;
         let mut r = (p & 0xffff_ffff_ffff_ffff) as u64 & ((1u64 << self.degree) - 1);
-        for k in 0..self.parts() as usize {
+        for k in 0..16usize {
             r ^= self.rows[k][((high >> (4 * k)) % 16) as usize];
         }
         r
@@ -83,7 +75,7 @@ impl Register {
         requires { ⌜ Reduced (now self .modulus) a ⌝ ∗ ⌜ Reduced (now self .modulus) b ⌝ }
         ensures { λ r. ⌜ r ≡ product (now (self .entry) .modulus) a b ⌝ }
     {
-        self.remainder(times(a, b, self.parts()))
+        self.remainder(times(a, b))
     }
 }
 

@@ -1,6 +1,5 @@
 use mathlib.Core.Path.{_≡_, sym, ap, _∙_}
 use Prim.Native.Nat.{ℕ, _-_, _*_, _/_, _%_, _^_, _<_}
-use native.Mathlib.Nat.{div-eq-of-lt}
 use native.Mathlib.Omega.{arith}
 use lib.Bits.{bitXor}
 use Rattle.polynomial_ring.specs.Polynomials.{times}
@@ -10,7 +9,7 @@ use Rattle.polynomials.proofs.products.times.Needs as need
 
 pub loop-i-holds : need.loop-i-holds
 loop-i-holds c =
-    let e : c .args .b / 2 ^ (4 * c .args .parts) ≡ 0 = div-eq-of-lt (c .pre .1 .1) in
+    let e : c .args .b / 2 ^ 64 ≡ 0 = omega arith in
     sym (ap (times (c .args .a)) e ∙ times-zero (c .args .a))
 
 pub mul-product : need.mul-product

@@ -1,11 +1,11 @@
 use mathlib.Core.Path.{_≡_, sym, ap, ap₂, subst, _∙_}
-use Prim.Native.Nat.{ℕ, _+_, _-_, _*_, _/_, _%_, _^_, _<_, _≤_}
+use Prim.Native.Nat.{ℕ, _+_, _-_, _*_, _/_, _%_, _^_, _<_}
 use native.Mathlib.Omega.{arith}
 use mathlib.Core.List.{[]}
 use native.Mathlib.Nat.{mod-eq-of-lt}
 use lib.Bits.{bitXor, bitAnd, xor-assoc}
 use lib.ListN.{getD}
-use lib.Pow.{pow-pos, pow-mono, shr-lt}
+use lib.Pow.{pow-pos, shr-lt}
 use Rattle.std.proofs.shelf.Bits.{one-shl}
 use Rattle.polynomial_ring.specs.Polynomials.{top, rem}
 use Rattle.polynomial_ring.proofs.Windows.{fold-more, fold-whole, fold-none, low-part}
@@ -16,11 +16,10 @@ shr-high c = omega (arith, c .args .self .now .narrow)
 
 pub cast-high-2 : need.cast-high-2
 cast-high-2 c =
-    let n : ℕ = top (c .args .self .now .modulus) in
-    let k : n ≤ 64 = omega (arith, c .args .self .now .narrow, c .args .self .now .high) in
-    let h : c .args .p / 2 ^ (c .args .self .now .degree) < 2 ^ n =
-    subst (λ (d : ℕ). c .args .p / 2 ^ d < 2 ^ n) (sym (c .args .self .now .high)) (shr-lt {n = c .args .p} n n (c .pre)) in
-    omega (arith, h, pow-mono {i = n} {j = 64} k)
+    let f : ℕ = c .args .self .now .modulus in
+    let h : c .args .p / 2 ^ (c .args .self .now .degree) < 2 ^ 64 =
+    subst (λ (n : ℕ). c .args .p / 2 ^ n < 2 ^ 64) (sym (c .args .self .now .high)) (shr-lt {n = c .args .p} 64 (top f) (c .pre)) in
+    omega (arith, h)
 
 pub shl-r : need.shl-r
 shl-r c = omega (arith, c .args .self .now .narrow)
@@ -52,7 +51,7 @@ loop-k-again c =
     let lt : w < 16 = omega arith in
     let found : getD (getD (c .args .self .now .rows) k []) (p / 2 ^ (c .args .self .now .degree) / 2 ^ (4 * k) % 16) 0 ≡ rem f (w * 2 ^ (n + 4 * k)) =
     ap (λ (m : ℕ). getD (getD (c .args .self .now .rows) k []) (p / 2 ^ m / 2 ^ (4 * k) % 16) 0) (c .args .self .now .high)
-    ∙ c .args .self .now .folds k w (omega (arith, c .parts-k-end .ensures .few), lt) in
+    ∙ c .args .self .now .folds k w (c .loop-k-test .taken, lt) in
     ap₂ bitXor (c .loop-k .inv) found
     ∙ xor-assoc (p % 2 ^ n) (rem f (h % 2 ^ (4 * k) * 2 ^ n)) (rem f (w * 2 ^ (n + 4 * k)))
     ∙ ap (bitXor (p % 2 ^ n)) (fold-more f pos n h k)
@@ -63,11 +62,9 @@ returns c =
     let n : ℕ = top f in
     let p : ℕ = c .args .p in
     let pos : 0 < f = omega (arith, c .args .self .now .least) in
-    let parts : ℕ = c .parts-k-end .result in
-    let end : c .loop-k .k ≡ parts = omega arith in
-    let small : p / 2 ^ n < 2 ^ (4 * parts) =
-    omega (arith, shr-lt {n = p} n n (c .pre), pow-mono {i = n} {j = 4 * parts} (c .parts-k-end .ensures .enough)) in
-    let whole : p / 2 ^ n % 2 ^ (4 * parts) ≡ p / 2 ^ n = mod-eq-of-lt small in
+    let end : c .loop-k .k ≡ 16 = omega arith in
+    let small : p / 2 ^ n < 2 ^ 64 = shr-lt {n = p} 64 n (c .pre) in
+    let whole : p / 2 ^ n % 2 ^ 64 ≡ p / 2 ^ n = mod-eq-of-lt small in
     c .loop-k .inv
     ∙ ap (λ (k : ℕ). bitXor (p % 2 ^ n) (rem f (p / 2 ^ n % 2 ^ (4 * k) * 2 ^ n))) end
     ∙ ap (λ (h : ℕ). bitXor (p % 2 ^ n) (rem f (h * 2 ^ n))) whole
