@@ -1,7 +1,7 @@
 //! From the highest bit down: double, and add 1 at a one bit.
 ghost use mathlib.Core.Path.{_≡_};
 ghost use mathlib.Core.Bool.{true};
-ghost use Prim.Native.Nat.{_+_, _-_, _≤_};
+ghost use Prim.Native.Nat.{_+_, _-_, _*_, _^_, _<_, _≤_};
 ghost use lib.Count.{ones};
 ghost use lib.ListN.{length, take};
 ghost use Rattle.std.specs.Vec.{made};
@@ -21,6 +21,7 @@ pub fn left_to_right(n: u64, table: &mut [Step]) -> Result<usize, Refusal>
     ensures within { λ r. ⌜ made r (λ l. l ≤ 128) ⌝ }
     ensures count { λ r. ⌜ made r (λ l. l ≡ top n + ones n - 1) ⌝ }
     ensures chain { λ r. ⌜ made r (λ l. Chain n (take l (now (table .exit)))) ⌝ }
+    ensures highest { λ r. ⌜ made r (λ _. (2 ^ top n ≤ n) × (n < 2 * 2 ^ top n)) ⌝ }
 {
     check_request(true, n, table.len())?;
     let mut len = 0;

@@ -32,6 +32,7 @@ pub record Bench (V : Type 0) : Type 0 where
   pub unit : State V
   pub table : List Step
 
+-- the unit in the state s, and the table
 abbrev pub bench : {V : Type 0} → State V → List Step → Bench V
 bench s table = record { unit = s; table = table }
 
@@ -50,6 +51,7 @@ MadeBy m room p (Job text n x) b a d =
     × Jobbed m (b .unit) n x (jobPlan (readSheet (text .now) room) n) (d .unit)
     × (d .table ≡ filled (readSheet (text .now) room) (b .table))
 
+-- what a call answers and leaves
 abbrev pub Made : {V : Type 0} → Meaning V → ℕ → Call V → Bench V → Answer V → Bench V → Type 0
 Made m room c b a d = MadeBy m room (c .plan) (c .act) b a d
 

@@ -5,7 +5,7 @@ use runs::Raised;
 use runs::RaisedClone;
 
 /// What a call does.
-#[derive(Clone, Copy)]
+#[derive(Drop)]
 pub enum Act<'a, V> {
     /// Loads the value into the cell.
     Load(u8, V),

@@ -42,33 +42,33 @@ on-ok {X} g r x P Q h told = subst (λ (z : Result X Refusal). Cases z P Q) (sta
 filled-is : (ss old : List Step) → (take (length ss) (filled (Ok ss) old) ≡ ss) × (length ss ≤ length (filled (Ok ss) old))
 filled-is ss old = (take-append-seam ss (drop (length ss) old), simp length-append (omega arith))
 
--- the reading of a sheet that answered a, handed on the number k and left the table `new`
-module _ (sheet : Result (List Step) Refusal) (old new : List Step) (a : Result ℕ Refusal) (k : ℕ) where
-  read-steps : counted sheet ≡ Ok k → (ss : List Step) × (sheet ≡ Ok ss) × (k ≡ length ss)
-  read-steps = elim sheet as (λ r. counted r ≡ Ok k → (ss : List Step) × (r ≡ Ok ss) × (k ≡ length ss)) [
-    | Ok ss ↦ λ h. (ss, refl, cc)
-    | Err e ↦ λ h. absurd (let z : _≡_ {A = ℕ} 0 1 = cc in omega arith)
-  ]
+-- what was read of a sheet that handed on the number k
+read-steps : (sheet : Result (List Step) Refusal) (k : ℕ) → counted sheet ≡ Ok k → (ss : List Step) × (sheet ≡ Ok ss) × (k ≡ length ss)
+read-steps (Ok ss) k h = (ss, refl, cc)
+read-steps (Err e) k h = absurd (let z : _≡_ {A = ℕ} 0 1 = cc in omega arith)
 
-  module _ (said : a ≡ counted sheet) (on : Ok k ≡ staged Reading a) (after : new ≡ filled sheet old) where
-    read-found : (ss : List Step) × (sheet ≡ Ok ss) × (k ≡ length ss)
-    read-found = read-steps (sym said ∙ staged-ok Reading a k on)
+-- the reading of `own`, which is the sheet: it answered a, handed on the number k, and left the table `new`
+module _ (sheet own : Result (List Step) Refusal) (same : own ≡ sheet) (old new : List Step) (a : Result ℕ Refusal) (k : ℕ)
+    (said : a ≡ counted own) (on : Ok k ≡ staged Reading a) (after : new ≡ filled own old) where
+  found : (ss : List Step) × (sheet ≡ Ok ss) × (k ≡ length ss)
+  found = read-steps sheet k (sym (said ∙ ap counted same) ∙ staged-ok Reading a k on)
 
-    left-is : new ≡ filled (Ok (read-found .0)) old
-    left-is = after ∙ ap (λ (r : Result (List Step) Refusal). filled r old) (read-found .1)
+  pub read-left : new ≡ filled sheet old
+  read-left = after ∙ ap (λ (r : Result (List Step) Refusal). filled r old) same
 
-    -- the steps lie in front
-    pub read-is : sheet ≡ Ok (take (k - 0) new)
-    read-is =
-        let f = read-found in
-        let front : take (length (f .0)) new ≡ f .0 = ap (take (length (f .0))) left-is ∙ filled-is (f .0) old .0 in
-        f .1 ∙ ap Ok (sym front) ∙ ap (λ (n : ℕ). Ok (take n new)) (sym (f .2) ∙ sym (sub-zero k))
+  left-is : new ≡ filled (Ok (found .0)) old
+  left-is = read-left ∙ ap (λ (r : Result (List Step) Refusal). filled r old) (found .1)
 
-    pub read-fits : k ≤ length new
-    read-fits =
-        let f = read-found in
-        let long : length (f .0) ≤ length new = subst (λ (l : List Step). length (f .0) ≤ length l) (sym left-is) (filled-is (f .0) old .1) in
-        omega (arith, f .2)
+  -- the steps lie in front
+  pub read-is : sheet ≡ Ok (take (k - 0) new)
+  read-is =
+      let front : take (length (found .0)) new ≡ found .0 = ap (take (length (found .0))) left-is ∙ filled-is (found .0) old .0 in
+      found .1 ∙ ap Ok (sym front) ∙ ap (λ (n : ℕ). Ok (take n new)) (sym (found .2) ∙ sym (sub-zero k))
+
+  pub read-fits : k ≤ length new
+  read-fits =
+      let long : length (found .0) ≤ length new = subst (λ (l : List Step). length (found .0) ≤ length l) (sym left-is) (filled-is (found .0) old .1) in
+      omega (arith, found .2)
 
 -- once the steps are read
 module _ {V : Type 0} (m : Meaning V) (s : State V) (sheet : Result (List Step) Refusal) (n : ℕ) (x : V) (steps : List Step) (is : sheet ≡ Ok steps) where

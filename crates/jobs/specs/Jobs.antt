@@ -24,6 +24,7 @@ pub record Arrived : Type 0 where
   pub place : ℕ
   pub stage : Stage
 
+-- the one reading of a job's refusal
 abbrev pub arrived : JobRefusal → Arrived
 arrived e = record { number = code (e .refusal) .number; place = code (e .refusal) .place; stage = e .stage }
 

@@ -4,11 +4,11 @@ ghost use Rattle.jobs.specs.Jobs.{arrived, staged};
 use crate::stage::Stage;
 use refusals::Refusal;
 
-/// A stage's refusal, as it arrives from there, and the stage.
+/// A stage's refusal, whole as it arrives from there, and the stage.
 #[derive(Clone, Copy)]
 pub struct JobRefusal {
-    stage: Stage,
-    refusal: Refusal,
+    pub stage: Stage,
+    pub refusal: Refusal,
 }
 
 impl JobRefusal {

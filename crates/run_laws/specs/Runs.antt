@@ -46,12 +46,17 @@ afterRun m s places steps x = afterSteps m (loaded s (cellOf places 0) x) places
 
 -- an accepted run, under one placing: what it handed out, and what it left
 pub record Success {V : Type 0} (m : Meaning V) (s : State V) (n : ℕ) (steps : List Step) (x : V) (given : V) (t : State V) : Type 0 where
+  -- the cells of the values, which are the supplied placing and are within the unit's
   pub places : List ℕ
   pub supplied : Supplied steps places
   pub fits : need steps ≤ length (s .cells)
+  -- it handed out the n-th power of the base
   pub value : given ≡ power m x n
+  -- the allowance is lower by the length of the plan
   pub left : s .left ≡ t .left + length steps
+  -- the whole state after
   pub after : t ≡ afterRun m s places steps x
+  -- the records that it added, worked in sums from 1 in the cell of a_0, give a_1 to a_r in order
   pub traces : Traces (length (s .cells)) (cellOf places 0) steps (s .log) (t .log)
 
 -- a run from the value x that the cell of a_0 holds: the steps are a chain for n, the placing is within the cells, and the allowance is enough

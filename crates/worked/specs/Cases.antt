@@ -2,7 +2,7 @@
 use mathlib.Core.Path.{_≡_}
 use mathlib.Core.Bool.{Bool, true, false, _&&_}
 use mathlib.Core.List.{List, [], _∷_}
-use Prim.Native.Nat.{ℕ}
+use Prim.Native.Nat.{ℕ, _+_}
 use lib.Dec.{eqb}
 use lib.ListN.{length}
 use Rattle.std.specs.declared.option.Option.{Option}
@@ -96,6 +96,10 @@ needCases =
 -- powers: 5 to the 23rd modulo 101 is 97, and t to the 10th modulo t^4 + t + 1 is t^2 + t + 1
 abbrev pub powerCases : List Bool
 powerCases = eqb (power (residues 101) 5 23) 97 ∷ eqb (power (polynomials 19) (record { bits = 2 }) 10 .bits) 7 ∷ []
+
+-- how many cases there are
+abbrev pub caseCount : ℕ
+caseCount = length planCases + (length needCases + length powerCases)
 
 -- every worked case holds
 abbrev pub WorkedCases : Type 0

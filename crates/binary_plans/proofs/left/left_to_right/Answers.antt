@@ -1,3 +1,5 @@
+use mathlib.Core.Path.{sym, subst}
+use Prim.Native.Nat.{ℕ, _*_, _^_, _<_, _≤_}
 use native.Mathlib.Omega.{arith}
 use Rattle.binary_plans.proofs.BothPlans.{Highest, highest}
 use Rattle.binary_plans.proofs.LeftPlans.{left-first, left-turn-none, left-turn-one, left-done}
@@ -19,5 +21,15 @@ loop-bit-again c = left-turn-none (c .loop-bit .inv) (omega arith) (c .if-n-bit-
 pub returns : need.returns
 returns c =
     let ok = c .in-Continue-check-request .ensures tt in
-    let r = left-done (ok .positive) (ok .bounded) (ok .places) (high-bit (at·returns c .After-ilog2-bit)) (c .loop-bit .inv) (omega arith) in
-    record { answer = r .answer; after = r .after; within = r .within; count = r .count; chain = r .chain }
+    let a = at·returns c .After-ilog2-bit in
+    let h = high-bit a in
+    let n = c .args .n in
+    let r = left-done (ok .positive) (ok .bounded) (ok .places) h (c .loop-bit .inv) (omega arith) in
+    record {
+      answer = r .answer;
+      after = r .after;
+      within = r .within;
+      count = r .count;
+      chain = r .chain;
+      highest = (subst (λ (x : ℕ). 2 ^ x ≤ n) (sym (h .is)) (a .ilog2-bit .ensures .high-bound), subst (λ (x : ℕ). n < 2 * 2 ^ x) (sym (h .is)) (a .ilog2-bit .ensures .low-bound));
+    }
