@@ -4,90 +4,15 @@ use std::hint::black_box;
 use std::process::ExitCode;
 use std::time::Instant;
 
+mod plain;
+
 unsafe extern "C" {
     safe fn residue_chain(p: u64, a: u32, b: u32, n: u64) -> u64;
     safe fn polynomial_chain(f: u64, a: u64, b: u64, n: u64) -> u64;
     safe fn count_chain(a: u64, b: u64, n: u64) -> u64;
     safe fn polynomial_power(f: u64, x: u64, n: u64) -> u64;
-}
-
-/// The plain functions. A refused call answers `REFUSED`.
-mod plain {
-    pub const REFUSED: u64 = u64::MAX;
-    const CAP: u64 = (1 << 63) - 1;
-
-    pub fn residue_chain(p: u64, a: u32, b: u32, n: u64) -> u64 {
-        if !(2..1 << 32).contains(&p) || a as u64 >= p || b as u64 >= p {
-            return REFUSED;
-        }
-        let mut product = a as u64;
-        for _ in 0..n {
-            product = product * b as u64 % p;
-        }
-        product
-    }
-
-    /// The product modulo f, from the highest bit of b down; a and b are below the degree of f.
-    fn polynomial_product(f: u64, a: u64, b: u64) -> u64 {
-        let degree = f.ilog2();
-        let mut product = 0;
-        for place in (0..degree).rev() {
-            product <<= 1;
-            if product >> degree & 1 == 1 {
-                product ^= f;
-            }
-            if b >> place & 1 == 1 {
-                product ^= a;
-            }
-        }
-        product
-    }
-
-    fn is_word(f: u64, x: u64) -> bool {
-        x >> f.ilog2() == 0
-    }
-
-    pub fn polynomial_chain(f: u64, a: u64, b: u64, n: u64) -> u64 {
-        if f < 2 || !is_word(f, a) || !is_word(f, b) {
-            return REFUSED;
-        }
-        let mut product = a;
-        for _ in 0..n {
-            product = polynomial_product(f, product, b);
-        }
-        product
-    }
-
-    pub fn count_chain(a: u64, b: u64, n: u64) -> u64 {
-        if a > CAP || b > CAP {
-            return REFUSED;
-        }
-        let mut sum = a;
-        for _ in 0..n {
-            sum = sum.saturating_add(b).min(CAP);
-        }
-        sum
-    }
-
-    /// From the lowest bit of n up, so not in the order of the proved function.
-    pub fn polynomial_power(f: u64, x: u64, n: u64) -> u64 {
-        if f < 2 || !is_word(f, x) || n == 0 || n > CAP {
-            return REFUSED;
-        }
-        let mut power = None;
-        let mut square = x;
-        let mut left = n;
-        loop {
-            if left & 1 == 1 {
-                power = Some(power.map_or(square, |p| polynomial_product(f, p, square)));
-            }
-            left >>= 1;
-            if left == 0 {
-                return power.unwrap();
-            }
-            square = polynomial_product(f, square, square);
-        }
-    }
+    safe fn plan_checksum(method: u64, width: u64, n: u64) -> u64;
+    safe fn place_longest(counted: u8, cells: u8) -> u64;
 }
 
 /// Random numbers: a 64-bit linear congruence whose high bits are mixed in.
@@ -124,23 +49,46 @@ impl Random {
 }
 
 const CASES: u64 = 200_000;
+const PLANS: usize = 90_000;
 const MODULI: [u64; 8] = [0, 1, 2, 3, 0xffff_fffe, 0xffff_ffff, 0x1_0000_0000, u64::MAX];
 const REGISTERS: [u64; 10] =
     [0, 1, 2, 3, 0x13, 1 << 63, (1 << 63) - 1, (1 << 63) + 1, 0x8000_0000_0000_001b, u64::MAX];
 const COUNTS: [u64; 6] = [0, 1, (1 << 63) - 2, (1 << 63) - 1, 1 << 63, u64::MAX];
-const EXPONENTS: [u64; 6] = [0, 1, 2, (1 << 63) - 1, 1 << 63, u64::MAX];
+const EXPONENTS: [u64; 10] = [0, 1, 2, 1024, 1025, 0xffff_ffff, 0x1_0000_0000, (1 << 63) - 1, 1 << 63, u64::MAX];
 
-/// Runs `case` often; it answers what the proved function and the plain one gave. Prints how many differ.
-fn compare(name: &str, mut case: impl FnMut(&mut Random) -> (u64, u64)) -> bool {
-    let mut random = Random(1);
-    let (mut differ, mut refused) = (0, 0);
-    for _ in 0..CASES {
-        let (proved, plain) = case(&mut random);
+/// The methods by number, width, name, and how many bits their exponents have at most.
+const METHODS: [(u64, u64, &str, u32); 9] = [
+    (1, 0, "left to right", 63),
+    (2, 0, "right to left", 63),
+    (3, 0, "factor", 32),
+    (4, 1, "digits of 1 bit", 63),
+    (4, 2, "digits of 2 bits", 63),
+    (4, 3, "digits of 3 bits", 63),
+    (4, 4, "digits of 4 bits", 63),
+    (4, 5, "digits of 5 bits", 63),
+    (5, 0, "tree", 10),
+];
+
+/// Goes through what the proved function and the plain one answered to each case. Prints how many differ.
+fn compare(name: &str, answers: impl Iterator<Item = (u64, u64)>) -> bool {
+    let (mut cases, mut differ, mut refused) = (0, 0, 0);
+    for (proved, plain) in answers {
+        cases += 1;
         differ += (proved != plain) as u64;
         refused += (plain == plain::REFUSED) as u64;
     }
-    println!("{name:18} {CASES} cases, {refused} of them refused, {differ} differ");
+    println!("{name:18} {cases:7} cases, {refused:6} of them refused, {differ} differ");
     differ == 0
+}
+
+/// The same on random cases.
+fn compare_random(name: &str, case: impl Fn(&mut Random) -> (u64, u64)) -> bool {
+    let mut random = Random(1);
+    compare(name, (0..CASES).map(|_| case(&mut random)))
+}
+
+fn plan_both(method: u64, width: u64, n: u64) -> (u64, u64) {
+    (plan_checksum(method, width, n), plain::plan_checksum(method, width, n))
 }
 
 fn word_limit(f: u64) -> u64 {
@@ -148,60 +96,101 @@ fn word_limit(f: u64) -> u64 {
 }
 
 fn compare_all() -> bool {
-    let residues = compare("residue_chain", |r| {
+    let residues = compare_random("residue_chain", |r| {
         let p = r.with_ends(&MODULI, 33);
         let bound = p.clamp(2, 0xffff_ffff);
         let (a, b, n) = (r.mostly_below(bound) as u32, r.mostly_below(bound) as u32, r.next() % 4);
         (residue_chain(p, a, b, n), plain::residue_chain(p, a, b, n))
     });
-    let polynomials = compare("polynomial_chain", |r| {
+    let polynomials = compare_random("polynomial_chain", |r| {
         let f = r.with_ends(&REGISTERS, 64);
         let limit = word_limit(f);
         let (a, b, n) = (r.mostly_below(limit), r.mostly_below(limit), r.next() % 4);
         (polynomial_chain(f, a, b, n), plain::polynomial_chain(f, a, b, n))
     });
-    let counts = compare("count_chain", |r| {
+    let counts = compare_random("count_chain", |r| {
         let (a, b, n) = (r.with_ends(&COUNTS, 64), r.with_ends(&COUNTS, 64), r.next() % 4);
         (count_chain(a, b, n), plain::count_chain(a, b, n))
     });
-    let powers = compare("polynomial_power", |r| {
+    let powers = compare_random("polynomial_power", |r| {
         let f = r.with_ends(&REGISTERS, 64);
         let (x, n) = (r.mostly_below(word_limit(f)), r.with_ends(&EXPONENTS, 64));
         (polynomial_power(f, x, n), plain::polynomial_power(f, x, n))
     });
-    residues && polynomials && counts && powers
+    let small = METHODS.iter().flat_map(|m| (0..=1026).map(|n| plan_both(m.0, m.1, n)));
+    let small = compare("plans up to 1,026", small);
+    let mut r = Random(2);
+    let plans = (0..PLANS).map(|i| {
+        let (method, width, _, bits) = METHODS[i % METHODS.len()];
+        let width = if r.next() % 32 == 0 { r.next() % 8 } else { width };
+        plan_both(method, width, r.with_ends(&EXPONENTS, bits as u64 + 1))
+    });
+    let plans = compare("plans", plans);
+    let pairs = (0..=255).flat_map(|counted| (0..=255).map(move |cells| (counted, cells)));
+    let places = compare("place_longest", pairs.map(|(h, c)| (place_longest(h, c), plain::place_longest(h, c))));
+    residues && polynomials && counts && powers && small && plans && places
 }
 
-/// Nanoseconds a unit of work, the best of five runs.
-fn time(units: u64, run: impl Fn() -> u64) -> f64 {
-    let once = || {
+/// Nanoseconds a unit of work, the best of nine runs of each, taken in turn.
+fn time_both(units: u64, proved: impl Fn() -> u64, plain: impl Fn() -> u64) -> (f64, f64) {
+    let once = |run: &dyn Fn() -> u64| {
         let start = Instant::now();
         black_box(run());
         start.elapsed().as_nanos() as f64 / units as f64
     };
-    (0..5).map(|_| once()).fold(f64::INFINITY, f64::min)
+    let best = (f64::INFINITY, f64::INFINITY);
+    (0..9).fold(best, |best, _| (best.0.min(once(&proved)), best.1.min(once(&plain))))
 }
 
 fn row(what: &str, units: u64, proved: impl Fn() -> u64, plain: impl Fn() -> u64) {
-    let (proved, plain) = (time(units, proved), time(units, plain));
-    println!("{what:44} {proved:9.2} ns {plain:9.2} ns");
+    let (proved, plain) = time_both(units, proved, plain);
+    println!("{what:54} {:>9.4} us {:>9.4} us {:>6.2}", proved / 1000.0, plain / 1000.0, proved / plain);
 }
 
-fn time_all() {
+fn time_products() {
     let n = black_box(300_000);
-    println!("\n{:44} {:>12} {:>12}", "", "proved", "plain");
     for p in [101, 0xffff_fffb] {
         let p = black_box(p);
         row(&format!("a product of residues modulo {p}"), n, || residue_chain(p, 5, 7, n), || plain::residue_chain(p, 5, 7, n));
     }
-    for f in [0x13, 0x1_0000_008d, 0x8000_0000_0000_001b] {
+    for f in [0x13, 0x1_0000_008d, 0x8000_0000_0000_0003] {
         let (f, a, b) = (black_box(f), 0x1234_5678_9abc_def1 % word_limit(f), 0x0fed_cba9_8765_4321 % word_limit(f));
         row(&format!("a product of polynomials modulo hex {f:x}"), n, || polynomial_chain(f, a, b, n), || plain::polynomial_chain(f, a, b, n));
-        let power = |g: fn(u64, u64, u64) -> u64| (0..1000).fold(0, |all, i| all ^ g(f, a, 0x7fff_ffff_ffff_ffff - i));
-        let proved: fn(u64, u64, u64) -> u64 = |f, x, n| polynomial_power(f, x, n);
-        row(&format!("a power of 63 bits modulo hex {f:x}"), 1000, || power(proved), || power(plain::polynomial_power));
     }
     row("a product of counts", n, || count_chain(1, 3, n), || plain::count_chain(1, 3, n));
+}
+
+fn time_powers() {
+    let f = black_box(0x8000_0000_0000_0003);
+    for (name, n) in [("2^62 - 57", (1 << 62) - 57), ("2^50", 1 << 50)] {
+        let proved = || (1..=1000).fold(0, |all, x| all ^ polynomial_power(f, x, n));
+        let plain = || (1..=1000).fold(0, |all, x| all ^ plain::polynomial_power(f, x, n));
+        row(&format!("power {name} modulo hex {f:x}"), 1000, proved, plain);
+    }
+}
+
+fn time_plans() {
+    let mut r = Random(3);
+    for (method, width, name, bits) in METHODS {
+        let numbers: Vec<u64> = (0..2000).map(|_| (1 << (bits - 1)) | r.next() >> (65 - bits)).collect();
+        let proved = || numbers.iter().fold(0, |all, n| all ^ plan_checksum(method, width, *n));
+        let plain = || numbers.iter().fold(0, |all, n| all ^ plain::plan_checksum(method, width, *n));
+        row(&format!("a plan by {name}, exponents of {bits} bits"), 2000, proved, plain);
+    }
+    for counted in [64, 128] {
+        let counted = black_box(counted);
+        let need = plain::place_longest(counted, 129);
+        let proved = || (0..2000).fold(0, |all, _| all ^ place_longest(black_box(counted), 129));
+        let plain = || (0..2000).fold(0, |all, _| all ^ plain::place_longest(black_box(counted), 129));
+        row(&format!("placing a plan of 128 steps into {need} cells"), 2000, proved, plain);
+    }
+}
+
+fn time_all() {
+    println!("\n{:54} {:>12} {:>12} {:>6}", "", "proved", "plain", "ratio");
+    time_products();
+    time_powers();
+    time_plans();
 }
 
 fn main() -> ExitCode {

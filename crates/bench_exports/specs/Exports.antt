@@ -12,7 +12,11 @@ use Rattle.kinds.specs.Counting.{counting}
 use Rattle.kinds.specs.Residues.{isModulus, residues}
 use Rattle.polynomials.specs.declared.word.Word.{Word}
 use Rattle.polynomials.specs.Polynomials.{polynomials}
+use Rattle.methods.specs.Requests.{planFor}
+use Rattle.plans.specs.declared.step.Step.{Step}
+use mathlib.Core.List.{List}
 use Rattle.bench_exports.specs.Chains.{chainOf}
+use Rattle.bench_exports.specs.Plans.{checksum, request, placedLongest}
 use Rattle.bench_exports.specs.Powers.{raised}
 
 abbrev pub refused : ℕ
@@ -45,3 +49,19 @@ bitsOf (Err _) = refused
 
 abbrev pub polynomialPower : ℕ → ℕ → ℕ → ℕ
 polynomialPower f x n = cond (leb 2 f) (bitsOf (raised f (word x) n)) refused
+
+-- the checksum of a plan, if it is not refused
+abbrev pub checksumOr : Result (List Step) Refusal → ℕ
+checksumOr (Ok steps) = checksum steps
+checksumOr (Err _) = refused
+
+abbrev pub planChecksum : ℕ → ℕ → ℕ → ℕ
+planChecksum method width n = checksumOr (planFor (request method width n))
+
+-- the number answered, if it is not refused
+abbrev pub numberOr : Result ℕ Refusal → ℕ
+numberOr (Ok v) = v
+numberOr (Err _) = refused
+
+abbrev pub placeLongest : ℕ → ℕ → ℕ
+placeLongest h c = numberOr (placedLongest h c)

@@ -1,3 +1,4 @@
 pub mod Chains
 pub mod Powers
+pub mod Plans
 pub mod Exports

@@ -2,6 +2,7 @@
 use mathlib.Core.Path.{_≡_}
 use mathlib.Core.List.{List}
 use Prim.Native.Nat.{ℕ}
+use lib.ListN.{replicate}
 use Rattle.std.specs.declared.option.Option.{Option}
 use Rattle.std.specs.declared.option.Option.the-variants.{Some, None}
 use Rattle.std.specs.declared.result.Result.{Result}
@@ -9,6 +10,7 @@ use Rattle.std.specs.declared.result.Result.the-variants.{Ok, Err}
 use Rattle.refusals.specs.declared.refusal.Refusal.{Refusal}
 use Rattle.plans.specs.declared.step.Step.{Step}
 use Rattle.plans.specs.Admission.{admission}
+use Rattle.plans.specs.Chain.{noStep}
 use Rattle.sheets.specs.Reading.{filled}
 use Rattle.kinds.specs.Kinds.{Meaning}
 use Rattle.units.specs.Units.{State}
@@ -45,6 +47,10 @@ sheetPlan sheet n = jobPlan sheet n
 abbrev pub FitsSheet : {V : Type 0} → Meaning V → State V → ℕ → V → Option (List Step) → State V → Type 0
 FitsSheet m s n x None t = t ≡ s
 FitsSheet m s n x (Some steps) t = FitsUnit m s n steps x (fitAnswer m s n steps x) t
+
+-- tables of zeros
+abbrev pub blank : Tables
+blank = record { steps = replicate 128 noStep; trimmed = replicate 128 noStep; cells = replicate 129 0; exponents = replicate 128 0 }
 
 -- the tables of the trimmed plan after: as they were where no plan came to be fitted, and else as fitting that plan leaves them
 abbrev pub TablesOf : Option (List Step) → Tables → Tables → Type 0

@@ -7,8 +7,8 @@ ghost use Rattle.run_laws.specs.Traces.{sums, oneIn};
 use banks::CountsBank;
 use banks::CountsBankKind;
 use banks::CountsBankUnit;
-use run_sheet::RunSheet;
 use plans::MOST_STEPS;
+use run_sheet::RunSheet;
 use units::Record;
 
 /// The cells of the bank that a plan is rehearsed on.
@@ -33,11 +33,7 @@ fn put_number(cells: &mut [u64], cell: u8, number: u64)
 }
 
 // Works the records of the run sheet in sums, from 1 in the start cell, and writes the sums into the first places of the table.
-pub(crate) fn work_records(
-    sheet: &RunSheet<CountsBank>,
-    start: u8,
-    out: &mut [u64; MOST_STEPS],
-)
+pub(crate) fn work_records(sheet: &RunSheet<CountsBank>, start: u8, out: &mut [u64; MOST_STEPS])
     requires few { ⌜ now sheet .len ≤ 128 ⌝ }
     requires small { ⌜ ((i : ℕ) → getD (sums (oneIn 32 start) (take (now sheet .len) (now sheet .records))) i 0 < 2 ^ 63) ⌝ }
     ensures after { λ _. ⌜ now (out .exit) ≡ sums (oneIn 32 start) (take (now (sheet .entry) .len) (now (sheet .entry) .records)) ++ drop (now (sheet .entry) .len) (now (out .entry)) ⌝ }

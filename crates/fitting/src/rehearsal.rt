@@ -7,12 +7,12 @@ use banks::CountsBank;
 use banks::CountsBankKind;
 use banks::CountsBankUnit;
 use kinds::Count;
-use run_sheet::RunSheet;
-use run_sheet::RunSheetKind;
-use run_sheet::RunSheetUnit;
 use plans::MOST_STEPS;
 use plans::Plan;
 use refusals::Refusal;
+use run_sheet::RunSheet;
+use run_sheet::RunSheetKind;
+use run_sheet::RunSheetUnit;
 use runs::run;
 
 // Runs the plan from 1, whose cell is `start`, and writes the exponents that the run sheet's records give into the first places of the table.

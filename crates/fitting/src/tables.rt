@@ -1,4 +1,6 @@
 //! The lent working memory.
+ghost use mathlib.Core.Path.{_≡_};
+ghost use Rattle.fitting.specs.Sheets.{blank};
 use placing::MOST_VALUES;
 use plans::MOST_STEPS;
 use plans::Step;
@@ -20,7 +22,9 @@ const NO_STEP: Step = Step {
 
 impl Tables {
     /// Tables of zeros.
-    pub fn new() -> Tables {
+    pub fn new() -> Tables
+        ensures value { λ r. ⌜ r ≡ blank ⌝ }
+    {
         Tables {
             steps: [NO_STEP; MOST_STEPS],
             trimmed: [NO_STEP; MOST_STEPS],

@@ -14,7 +14,7 @@ use Rattle.plans.specs.declared.step.Step.{Step}
 use Rattle.sheets.specs.declared.fault.Fault.{Fault}
 use Rattle.sheets.specs.declared.column.Column.{Column}
 use Rattle.sheets.specs.Lines.{line, lineBytes}
-use Rattle.sheets.specs.Reading.{fault, readLine, lineIn, Found, orNext, firstFault, stepOf, stepsFrom, textLines, told, passed}
+use Rattle.sheets.specs.Reading.{fault, readLine, lineIn, Found, orNext, firstFault, stepOf, stepsFrom, textLines, told, unlessFound}
 use Rattle.sheets.specs.Places.{Place, at, moved, stand}
 use Rattle.std.proofs.shelf.Lists.{drop-more, set-at, append-assoc}
 
@@ -77,11 +77,11 @@ turn-passes n i u t s p same h e q =
     (q ∙ ap (moved i) l, k, fault-step n i t h ∙ ap (λ r. orNext i r (firstFault (n - (i + 1)) (i + 1) t)) k)
 
 -- a turn at a line with a fault: the refusal, and the place
-pub turn-stops : (n i : ℕ) (u t : List ℕ) (e : Refusal) (p : Place) → u ≡ t → i < n → Err e ≡ told (lineIn i u) → p ≡ moved i (lineIn i u) → firstFault n 0 t ≡ firstFault (n - i) i t → (Err e ≡ passed (firstFault n 0 t)) × (p ≡ stand n (firstFault n 0 t))
+pub turn-stops : (n i : ℕ) (u t : List ℕ) (e : Refusal) (p : Place) → u ≡ t → i < n → Err e ≡ told (lineIn i u) → p ≡ moved i (lineIn i u) → firstFault n 0 t ≡ firstFault (n - i) i t → (Err e ≡ unlessFound (firstFault n 0 t) (tt {0})) × (p ≡ stand n (firstFault n 0 t))
 turn-stops n i u t e p same h r q inv =
     let f = told-err (lineIn i u) e r in
     let o = inv ∙ fault-step n i t h ∙ ap (λ x. orNext i x (firstFault (n - (i + 1)) (i + 1) t)) (ap (lineIn i) (sym same) ∙ f .1) in
-    (ap Err (f .2) ∙ sym (ap passed o), q ∙ ap (moved i) (f .1) ∙ sym (ap (stand n) o))
+    (ap Err (f .2) ∙ sym (ap (λ x. unlessFound x (tt {0})) o), q ∙ ap (moved i) (f .1) ∙ sym (ap (stand n) o))
 
 -- a line below the end of lines with no fault has none
 pub turn-clean : (n i : ℕ) (u t : List ℕ) (e : Refusal) → u ≡ t → i < n → firstFault n 0 t ≡ None → Err e ≡ told (lineIn i u) → ⊥

@@ -20,7 +20,7 @@ use Rattle.sheets.specs.declared.column.Column.the-variants.{Number, First, Se
 use Rattle.sheets.specs.Columns.{width, cell}
 use Rattle.sheets.specs.Lines.{line, lineBytes, newline, Writable}
 use Rattle.sheets.specs.Sheets.{sheet, sheetFrom, AllWritable, IsSheet}
-use Rattle.sheets.specs.Reading.{numberIn, andThen, readLine, lineAt, lineIn, Found, orNext, firstFault, stepOf, stepsFrom, textLines, roomFor, unlessFound, readLines, readSheet, counted, filled, passed}
+use Rattle.sheets.specs.Reading.{numberIn, andThen, readLine, lineAt, lineIn, Found, orNext, firstFault, stepOf, stepsFrom, textLines, roomFor, readLines, readSheet, counted, filled, unlessFound}
 use Rattle.sheets.specs.Places.{Place, outset, stand, standing, standIn}
 use Rattle.std.specs.Orderings.{Decides}
 use Rattle.std.specs.Results.{isOk}
@@ -113,13 +113,13 @@ sheet-back (suc n) i t l e =
 whole-lines : (bytes n m : ℕ) → Ok n ≡ roomFor m (textLines bytes) → (lineBytes * (0 + n) ≡ bytes) × (n ≤ 128) × (n ≤ m)
 whole-lines bytes n m e = (grind (arith), grind (arith), grind (arith))
 
-passed-none : (o : Option Found) → Ok tt ≡ passed o → o ≡ None
-passed-none None e = refl
-passed-none (Some f) e = cc
+found-none : (o : Option Found) → Ok (tt {0}) ≡ unlessFound o (tt {0}) → o ≡ None
+found-none None e = refl
+found-none (Some f) e = cc
 
-passed-some : (o : Option Found) (ss : List Step) (e : Refusal) → Err e ≡ passed o → unlessFound o ss ≡ Err e
-passed-some None ss e h = cc
-passed-some (Some f) ss e h = cc
+found-some : (o : Option Found) (ss : List Step) (e : Refusal) → Err e ≡ unlessFound o (tt {0}) → unlessFound o ss ≡ Err e
+found-some None ss e h = cc
+found-some (Some f) ss e h = cc
 
 -- a text that is read is a sheet
 is-sheet : (t : List ℕ) (m n : ℕ) → Ok n ≡ roomFor m (textLines (length t)) → firstFault n 0 t ≡ None → IsSheet m t
@@ -159,14 +159,14 @@ pub outcome-short : (t : List ℕ) (m : ℕ) (was : List Step) (e : Refusal) →
 outcome-short t m was e h = refused t m was e outset (ap (λ r. readLines r t) (sym h)) (ap (λ r. standIn r t) h)
 
 -- refused for a line
-pub outcome-fault : (t : List ℕ) (m n : ℕ) (was : List Step) (e : Refusal) (p : Place) → Ok n ≡ roomFor m (textLines (length t)) → Err e ≡ passed (firstFault n 0 t) → p ≡ stand n (firstFault n 0 t) → Outcome t m was (Err e) was p
+pub outcome-fault : (t : List ℕ) (m n : ℕ) (was : List Step) (e : Refusal) (p : Place) → Ok n ≡ roomFor m (textLines (length t)) → Err e ≡ unlessFound (firstFault n 0 t) (tt {0}) → p ≡ stand n (firstFault n 0 t) → Outcome t m was (Err e) was p
 outcome-fault t m n was e p room h q =
-    refused t m was e p (ap (λ r. readLines r t) (sym room) ∙ passed-some (firstFault n 0 t) (stepsFrom n 0 t) e h) (q ∙ ap (λ r. standIn r t) room)
+    refused t m was e p (ap (λ r. readLines r t) (sym room) ∙ found-some (firstFault n 0 t) (stepsFrom n 0 t) e h) (q ∙ ap (λ r. standIn r t) room)
 
 -- read, from a text that is the same as t
-pub outcome-read : (t u : List ℕ) (m n : ℕ) (was table : List Step) (p : Place) → u ≡ t → Ok n ≡ roomFor m (textLines (length t)) → Ok tt ≡ passed (firstFault n 0 t) → table ≡ stepsFrom n 0 u ++ drop n was → p ≡ stand n None → Outcome t m was (Ok n) table p
+pub outcome-read : (t u : List ℕ) (m n : ℕ) (was table : List Step) (p : Place) → u ≡ t → Ok n ≡ roomFor m (textLines (length t)) → Ok (tt {0}) ≡ unlessFound (firstFault n 0 t) (tt {0}) → table ≡ stepsFrom n 0 u ++ drop n was → p ≡ stand n None → Outcome t m was (Ok n) table p
 outcome-read t u m n was table p same room passes fills stands =
-    let clean = passed-none (firstFault n 0 t) passes in
+    let clean = found-none (firstFault n 0 t) passes in
     let l = length-steps n 0 t in
     let s = is-sheet t m n room clean in
     let f : table ≡ stepsFrom n 0 t ++ drop n was = fills ∙ ap (λ x. stepsFrom n 0 x ++ drop n was) same in

@@ -77,10 +77,10 @@ abbrev pub firstFault : ℕ → ℕ → List ℕ → Option Found
 firstFault zero i t = None
 firstFault (suc n) i t = orNext i (lineIn i t) (firstFault n (i + 1) t)
 
--- the verdict on lines with this first fault
-abbrev pub passed : Option Found → Result (Unit {0}) Refusal
-passed None = Ok tt
-passed (Some f) = Err (f .fault .refusal)
+-- what is handed out, unless there is a fault
+abbrev pub unlessFound : {X : Type 0} → Option Found → X → Result X Refusal
+unlessFound None x = Ok x
+unlessFound (Some f) x = Err (f .fault .refusal)
 
 -- the step that a line holds
 abbrev pub stepOf : Result Step Fault → Step
@@ -100,11 +100,6 @@ textLines bytes = cond (eqb (bytes % lineBytes) 0) (cond (leb (bytes / lineBytes
 abbrev pub roomFor : ℕ → Result ℕ Refusal → Result ℕ Refusal
 roomFor m (Ok n) = cond (leb n m) (Ok n) (Err (TableShort n))
 roomFor m (Err e) = Err e
-
--- the steps, unless there is a fault
-abbrev pub unlessFound : Option Found → List Step → Result (List Step) Refusal
-unlessFound None ss = Ok ss
-unlessFound (Some f) ss = Err (f .fault .refusal)
 
 -- the steps of the lines of a text
 abbrev pub readLines : Result ℕ Refusal → List ℕ → Result (List Step) Refusal

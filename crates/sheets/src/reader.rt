@@ -13,7 +13,7 @@ ghost use Rattle.std.specs.declared.option.Option.the-variants.{None, Some};
 ghost use Rattle.sheets.specs.declared.column.Column.{Column};
 ghost use Rattle.sheets.specs.Lines.{lineBytes};
 ghost use Rattle.sheets.specs.Sheets.{sheet, IsSheet};
-ghost use Rattle.sheets.specs.Reading.{lineIn, firstFault, stepsFrom, readSheet, counted, filled, told, passed};
+ghost use Rattle.sheets.specs.Reading.{lineIn, firstFault, stepsFrom, readSheet, counted, filled, told, unlessFound};
 ghost use Rattle.sheets.specs.Places.{placeOf, outset, moved, stand, standing, faultPlace, fieldAtFault, part, offset};
 use crate::column::Column;
 use crate::line::LINE_BYTES;
@@ -69,7 +69,7 @@ impl<'a> SheetReader<'a> {
     // Reads all lines from the first on, and stops at the first fault.
     fn check(&mut self, lines: usize) -> Result<(), Refusal>
         requires whole { ⌜ length (now (now self .text)) ≡ lineBytes * lines ⌝ }
-        ensures answer { λ r. ⌜ r ≡ passed (firstFault lines 0 (now (now (self .entry) .text))) ⌝ }
+        ensures answer { λ r. ⌜ r ≡ unlessFound (firstFault lines 0 (now (now (self .entry) .text))) (tt {0}) ⌝ }
         ensures text { λ _. ⌜ now (self .exit) .text ≡ now (self .entry) .text ⌝ }
         ensures place { λ _. ⌜ placeOf (now (self .exit)) ≡ stand lines (firstFault lines 0 (now (now (self .entry) .text))) ⌝ }
     {

@@ -74,6 +74,8 @@ pub impl<U: Unit> Unit for Window<U> as WindowUnit {
         ensures same { λ _. ⌜ U·Kind .kind (now (self .exit) .below) ≡ U·Kind .kind (now (self .entry) .below) ⌝ }
         ensures shape { λ _. ⌜ (let q = now (self .entry) in let t = now (self .exit) in SameShape (windowed (q .from) (q .size) (U·Unit .state (q .below))) (windowed (t .from) (t .size) (U·Unit .state (t .below)))) ⌝ }
         ensures below { λ _. ⌜ (let q = now (self .entry) in let m = U·Kind .kind (q .below) in let s = U·Unit .state (q .below) in U·Unit .state (now (self .exit) .below) ≡ settle (loadFault m (windowed (q .from) (q .size) s) cell v) s (loaded s (q .from + cell) v)) ⌝ }
+        ensures from { λ _. ⌜ now (self .exit) .from ≡ now (self .entry) .from ⌝ }
+        ensures size { λ _. ⌜ now (self .exit) .size ≡ now (self .entry) .size ⌝ }
         ensures kept { λ r. ⌜ (isErr r ≡ true → now (self .exit) ≡ now (self .entry)) ⌝ }
     {
         self.check_load(cell, v)?;
@@ -101,6 +103,8 @@ pub impl<U: Unit> Unit for Window<U> as WindowUnit {
         ensures same { λ _. ⌜ U·Kind .kind (now (self .exit) .below) ≡ U·Kind .kind (now (self .entry) .below) ⌝ }
         ensures shape { λ _. ⌜ (let q = now (self .entry) in let t = now (self .exit) in SameShape (windowed (q .from) (q .size) (U·Unit .state (q .below))) (windowed (t .from) (t .size) (U·Unit .state (t .below)))) ⌝ }
         ensures below { λ _. ⌜ (let q = now (self .entry) in let m = U·Kind .kind (q .below) in let s = U·Unit .state (q .below) in U·Unit .state (now (self .exit) .below) ≡ settle (multiplyFault (windowed (q .from) (q .size) s) to a b) s (multiplied m s (q .from + to) (q .from + a) (q .from + b))) ⌝ }
+        ensures from { λ _. ⌜ now (self .exit) .from ≡ now (self .entry) .from ⌝ }
+        ensures size { λ _. ⌜ now (self .exit) .size ≡ now (self .entry) .size ⌝ }
         ensures kept { λ r. ⌜ (isErr r ≡ true → now (self .exit) ≡ now (self .entry)) ⌝ }
     {
         self.check_multiply(to, a, b)?;

@@ -15,13 +15,13 @@ laws-of g u = record { closed = g .U·Kind·met .closed u; assoc = g .U·Kind·m
 
 pub index-places-step : need.index-places-step
 index-places-step g c =
-    let a = c .pre .1 .chain .cites (c .loop-i .i) (c .loop-i-test .taken) in
+    let a = c .pre .1 .chain .cites (c .loop-i .i) (omega arith) in
     let b = c .pre .1 .placing .whole in
-    omega (arith, a .1)
+    omega (arith, a .0, a .1)
 
 pub index-places-step-in-loop-i : need.index-places-step-in-loop-i
 index-places-step-in-loop-i g c =
-    let a = c .pre .1 .chain .cites (c .loop-i .i) (c .loop-i-test .taken) in
+    let a = c .pre .1 .chain .cites (c .loop-i .i) (omega arith) in
     let b = c .pre .1 .placing .whole in
     omega (arith, a .0, a .1)
 
@@ -31,7 +31,7 @@ returns-in-Break-multiply g c =
     let steps = c .args .steps .now in
     absurd (turn-passes (g .U·Kind .kind u) (g .U·Unit .state u) (lastValue steps) steps (c .args .places .now) (c .pre .0) (laws-of g u) (c .pre .1)
     (c .loop-i .i) (g .U·Kind .kind (c .loop-i .unit)) (g .U·Unit .state (c .loop-i .unit)) (c .loop-i .inv .1) (c .loop-i .inv .0)
-    (c .in-Break-multiply .field-0 .0) (c .loop-i-test .taken) (c .in-Break-multiply .ensures tt .value))
+    (c .in-Break-multiply .field-0 .0) (omega arith) (c .in-Break-multiply .ensures tt .value))
 
 pub loop-i-again : need.loop-i-again
 loop-i-again g c =
@@ -39,7 +39,7 @@ loop-i-again g c =
     let steps = c .args .steps .now in (
       turn-next (g .U·Kind .kind u) (g .U·Unit .state u) (lastValue steps) steps (c .args .places .now) (c .pre .0) (laws-of g u) (c .pre .1)
           (c .loop-i .i) (g .U·Kind .kind (c .loop-i .unit)) (g .U·Unit .state (c .loop-i .unit)) (c .loop-i .inv .1) (c .loop-i .inv .0)
-          (g .U·Unit .state (c .multiply .last .self)) (c .loop-i-test .taken) (c .multiply .ensures .after),
+          (g .U·Unit .state (c .multiply .last .self)) (omega arith) (c .multiply .ensures .after),
       c .multiply .ensures .same ∙ c .loop-i .inv .1,
     )
 

@@ -17,6 +17,8 @@ returns-in-Break-check-load g c =
       same = refl;
       shape = (refl, refl);
       below = sym (stays _ _ _ _ told);
+      from = refl;
+      size = refl;
       kept = λ _. refl;
     }
 
@@ -51,5 +53,7 @@ returns g c =
       same = told .same;
       shape = win-shape s t w (q .size) (told .shape);
       below = went ∙ sym (settles (loadFault m above cell v) s (loaded s (w + cell) v) (sym passed));
+      from = refl;
+      size = refl;
       kept = not-refused (c .load .result) ok;
     }

@@ -17,6 +17,8 @@ returns-in-Break-check-multiply g c =
       same = refl;
       shape = (refl, refl);
       below = sym (stays _ _ _ _ told);
+      from = refl;
+      size = refl;
       kept = λ _. refl;
     }
 
@@ -68,5 +70,7 @@ returns g c =
       same = told .same;
       shape = win-shape s t w (q .size) (told .shape);
       below = went ∙ sym (settles (multiplyFault above to a b) s (multiplied m s (w + to) (w + a) (w + b)) (sym passed));
+      from = refl;
+      size = refl;
       kept = not-refused (c .multiply .result) ok;
     }
