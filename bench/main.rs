@@ -142,9 +142,14 @@ fn time_both(units: u64, proved: impl Fn() -> u64, plain: impl Fn() -> u64) -> (
     (0..9).fold(best, |best, _| (best.0.min(once(&proved)), best.1.min(once(&plain))))
 }
 
+/// A time in nanoseconds, or from a microsecond on in those.
+fn shown(time: f64) -> String {
+    if time < 1000.0 { format!("{time:>9.2} ns") } else { format!("{:>9.2} us", time / 1000.0) }
+}
+
 fn row(what: &str, units: u64, proved: impl Fn() -> u64, plain: impl Fn() -> u64) {
     let (proved, plain) = time_both(units, proved, plain);
-    println!("{what:54} {:>9.4} us {:>9.4} us {:>6.2}", proved / 1000.0, plain / 1000.0, proved / plain);
+    println!("{what:54} {} {} {:>6.2}", shown(proved), shown(plain), proved / plain);
 }
 
 fn time_products() {

@@ -47,6 +47,15 @@ impl<U: Unit> RunSheet<U> {
         below
     }
 
+    /// How many records are stored.
+    pub fn len(&self) -> usize
+        ensures value { λ r. ⌜ r ≡ length (take (now (self .entry) .len) (now (self .entry) .records)) ⌝ }
+        ensures few { λ r. ⌜ r ≤ 1024 ⌝ }
+    {
+        let count = self.len;
+        count
+    }
+
     /// The record of a number, counted from 1, if there is one.
     pub fn record(&self, number: usize) -> Option<Record>
         ensures value { λ r. ⌜ r ≡ numbered (take (now (self .entry) .len) (now (self .entry) .records)) number ⌝ }
