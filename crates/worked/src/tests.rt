@@ -60,6 +60,33 @@ fn prints_sheets() -> Result<(), Fail> {
     ))
 }
 
+// Whether the plan program answers a line with a sheet of so many lines, of which this is the last.
+fn ends(line: &[u8], lines: usize, last: &[u8]) -> bool {
+    let mut out = [0u8; MOST_BYTES];
+    let Ok(size) = respond(line, &mut out) else {
+        return false;
+    };
+    if size > MOST_BYTES || size < last.len() || size != lines.saturating_mul(32) {
+        return false;
+    }
+    &out[size - last.len()..size] == last
+}
+
+// 2^63 - 1 has 63 one bits, so either binary plan has 124 steps.
+#[test]
+fn plans_the_largest_exponent() -> Result<(), Fail> {
+    check(ends(
+        b"   1   09223372036854775807\n",
+        124,
+        b" 124 123   09223372036854775807\n",
+    ))?;
+    check(ends(
+        b"   2   09223372036854775807\n",
+        124,
+        b" 124 123 1229223372036854775807\n",
+    ))
+}
+
 // The steps 1 2 3 up to one more than their number.
 fn counting() -> [Step; 129] {
     let mut steps = [Step {
