@@ -6,7 +6,8 @@ usage: python3 tools/respell.py        at the top, once, after the kit's port.py
     leftToRight, left-none, no-cell-at  ->  left_to_right, left_none, no_cell_at
 
 Types keep their capitals, and goals keep the names that the check gives them. Where a lemma would fall together with a
-definition, it gets the ending `_lem`. In a .rt file, a page or an edit only names of definitions are respelled: there `a-b` is a difference.
+definition, it gets the ending `_lem`. In a page or an edit only names of definitions are respelled, and in a .rt file
+those and the lemmas that it imports: elsewhere `a-b` is a difference.
 A name that a file takes from the library under the same spelling stays in that file, and is reported.
 """
 import collections
@@ -16,6 +17,7 @@ import sys
 
 DECLARED = re.compile(r"^(?:(?:abbrev|unfoldable|pattern|pub) )*([^\s:(){}]+)(?:\s*\{[^}]*\})*\s*:\s")
 RECORD = re.compile(r"^(?:pub )?record (\S+)")
+NESTED = re.compile(r"^( +)([^\s:(){}]+)(?:\s*\{[^}]*\})*\s*:\s")
 FIELD = re.compile(r"^\s+(?:pub )?([^\s:(){}]+)\s*:\s")
 WORD = r"[^\s(){}.;,@\"«»\[\]\\:]+"
 IN_PROOFS = re.compile(r"--[^\n]*|" + WORD)
@@ -29,8 +31,21 @@ def read(path):
         return it.read()
 
 
+def own_crates():
+    return {path.split("/")[1] for path in glob.glob("crates/*/")}
+
+
 def proofs():
     return sorted(glob.glob("crates/*/specs/*.antt") + glob.glob("crates/*/proofs/**/*.antt", recursive=True))
+
+
+def is_defined(name, indent, rest):
+    """Whether the lines after a signature, in a module with parameters or behind `where`, define its name."""
+    for line in rest:
+        word = line.split()
+        if word and len(line) - len(line.lstrip()) <= indent and word[0] != "unfolding":
+            return word[0] == name
+    return False
 
 
 def declared():
@@ -38,7 +53,11 @@ def declared():
     names, fields, types = collections.defaultdict(set), collections.defaultdict(set), set()
     for path in proofs():
         inside = False
-        for line in read(path).split("\n"):
+        lines = read(path).split("\n")
+        for at, line in enumerate(lines):
+            nested = NESTED.match(line)
+            if nested and is_defined(nested[2], len(nested[1]), lines[at + 1 :]):
+                names[nested[2]].add(path)
             record = RECORD.match(line)
             if record:
                 inside = True
@@ -73,6 +92,11 @@ def respelled():
     for name in types:
         if "-" in name:
             new[name] = camel(name)
+    # A lemma may not take the name of a word of the library that its own file imports.
+    own = own_crates()
+    for name in list(new):
+        if any(new[name] in foreign(read(path), own) for path in names[name]):
+            new[name] += "_lem"
     taken = collections.defaultdict(set)
     for name in [*names, *fields]:
         taken[new.get(name, name)].add(name)
@@ -126,15 +150,31 @@ def turn(path, new, pattern, own):
             it.write(turned)
 
 
+def turn_proofs_cited(path, new, own):
+    """In a .rt file: the lemmas that it takes from this repository's proofs, wherever it cites them."""
+    text = turned = read(path)
+    for module, items in USE.findall(text):
+        parts = module.split(".")
+        if len(parts) > 1 and parts[0] == "Rattle" and parts[1] in own:
+            for item in (it.strip() for it in items.split(",")):
+                if "-" in item:
+                    turned = re.sub(r"(?<![\w-])" + re.escape(item) + r"(?![\w-])", new.get(item, snake(item)), turned)
+    if turned != text:
+        with open(path, "w", encoding="utf-8") as it:
+            it.write(turned)
+
+
 def main():
     new = respelled()
-    own = {path.split("/")[1] for path in glob.glob("crates/*/")}
+    own = own_crates()
     for path in proofs():
         turn(path, new, IN_PROOFS, own)
     of_definitions = {old: name for old, name in new.items() if "-" not in old}
     texts = glob.glob("crates/*/src/*.rt") + glob.glob("crates/*/must-fail/*.edit") + glob.glob("docs/*.md") + ["README.md"]
     for path in sorted(texts):
         turn(path, of_definitions, IN_TEXT, own)
+        if path.endswith(".rt"):
+            turn_proofs_cited(path, new, own)
     print(f"respell: {len(new)} names")
 
 

@@ -7,7 +7,7 @@ ghost use Rattle.banks.specs.Banks.{bank, fresh};
 ghost use Rattle.std.proofs.lemmas.Bool.{lt-ltb};
 ghost use Rattle.bits.specs.Bits.{top};
 ghost use Rattle.polynomial_ring.specs.Polynomials;
-ghost use Rattle.polynomial_ring.proofs.Remainders.{product-native, product-assoc};
+ghost use Rattle.polynomial_ring.proofs.Remainders.{product_native, product_assoc};
 ghost use Rattle.polynomials.specs.declared.word.Word.{Word};
 
 use crate::places;
@@ -47,11 +47,11 @@ impl Kind for RegisterBank {
 
     ghost closed = { λ bank a b native-a native-b.
         let f = bank.rule.modulus in
-        lt-ltb (Polynomials.product f a.bits b.bits) (2 ^ top f) (product-native f (omega (arith, bank.rule.least)) a.bits b.bits) };
+        lt-ltb (Polynomials.product f a.bits b.bits) (2 ^ top f) (product_native f (omega (arith, bank.rule.least)) a.bits b.bits) };
 
     ghost assoc = { λ bank a b c native-a native-b native-c.
         let word : ℕ → Word = λ x. record { bits = x } in
-        ap word (product-assoc bank.rule.modulus (omega (arith, bank.rule.least)) a.bits b.bits c.bits) };
+        ap word (product_assoc bank.rule.modulus (omega (arith, bank.rule.least)) a.bits b.bits c.bits) };
 
     fn is_native(&self, v: Word) -> bool {
         self.rule.is_native(v)

@@ -3,7 +3,7 @@ ghost use Rattle.std.specs.Prelude.{◌≡◌, length};
 ghost use Rattle.kinds.specs.Residues.{residues};
 ghost use Rattle.units.specs.Units.{AllNative};
 ghost use Rattle.banks.specs.Banks.{bank, fresh};
-ghost use Rattle.kinds.specs.Remainders.{residue-assoc};
+ghost use Rattle.kinds.specs.Remainders.{residue_assoc};
 ghost use Rattle.std.proofs.Common.{rules, arith};
 
 use crate::places;
@@ -42,7 +42,7 @@ impl Kind for ResiduesBank {
 
     ghost closed = { first_of (Prim.search rules, Prim.grind (arith, Self.row.coded.inj)) };
 
-    ghost assoc = { λ bank a b c native-a native-b native-c. residue-assoc bank.rule.modulus a b c };
+    ghost assoc = { λ bank a b c native-a native-b native-c. residue_assoc bank.rule.modulus a b c };
 
     fn is_native(&self, v: u32) -> bool {
         self.rule.is_native(v)

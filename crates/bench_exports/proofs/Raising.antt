@@ -35,8 +35,8 @@ module _ (f : ℕ) (x : Word) (n : ℕ) (s : List Step) (chain : Chain n s) wher
       go true t = cc
       go false t = cc
 
-  last-power : (d : Word) (was : List Word) → get_or (powers_of (polynomials f) s x ++ was) (length s) d ≡ power (polynomials f) x n
-  last-power d was =
+  last_power : (d : Word) (was : List Word) → get_or (powers_of (polynomials f) s x ++ was) (length s) d ≡ power (polynomials f) x n
+  last_power d was =
       get_or_append_left (powers_of (polynomials f) s x) was d (length s) (omega (arith, powers_length (polynomials f) s x))
       ∙ get_or-map (power (polynomials f) x) (values s) (length s) 0 d (omega (arith, values_length s))
       ∙ ap (power (polynomials f) x) chain.reaches
@@ -52,4 +52,4 @@ module _ (f : ℕ) (x : Word) (n : ℕ) (s : List Step) (chain : Chain n s) wher
       go true t u =
           let h : length s + 1 ≤ length was = omega (arith, chain.short) in
           let v : now ≡ straightened (polynomials f) s x was = rw (le-leb (length s + 1) (length was) h) at u in
-          ap Ok (ap (λ (i : ℕ). get_or now i d) e ∙ ap (λ (xs : List Word). get_or xs (length s) d) v ∙ last-power d (drop (length s + 1) was))
+          ap Ok (ap (λ (i : ℕ). get_or now i d) e ∙ ap (λ (xs : List Word). get_or xs (length s) d) v ∙ last_power d (drop (length s + 1) was))

@@ -83,19 +83,19 @@ module _ {n : ℕ} {was : List Step} {b : ℕ} {t : List Step} {at v : ℕ} (g :
   down : b ≡ suc (b - 1)
   down = omega arith
 
-  filled-here : (rest : List Step) → left_from n (suc (b - 1)) at v ≡ rest → Filled (left_to_right n) was t at rest
-  filled-here rest e = subst (Filled (left_to_right n) was t at) (ap (λ (x : ℕ). left_from n x at v) down ∙ e) g.filled
+  filled_here : (rest : List Step) → left_from n (suc (b - 1)) at v ≡ rest → Filled (left_to_right n) was t at rest
+  filled_here rest e = subst (Filled (left_to_right n) was t at) (ap (λ (x : ℕ). left_from n x at v) down ∙ e) g.filled
 
-  value-is : n / 2 ^ (b - 1) ≡ v + v + bit_at n (b - 1)
-  value-is = omega (arith, halves n (b - 1), ap (λ (x : ℕ). n / 2 ^ x) down, g.value)
+  value_is : n / 2 ^ (b - 1) ≡ v + v + bit_at n (b - 1)
+  value_is = omega (arith, halves n (b - 1), ap (λ (x : ℕ). n / 2 ^ x) down, g.value)
 
   pub left-turn-none : (bit_at n (b - 1) ≡ 1 → ⊥) → LeftLoop n was (b - 1) (set t at (step at at (v + v))) (at + 1) (v + v)
   left-turn-none e =
       record {
-        filled = filled_more (left_to_right n) was t at _ _ (omega (arith, g.long, g.room)) (filled-here _ (left_none n (b - 1) at v e));
+        filled = filled_more (left_to_right n) was t at _ _ (omega (arith, g.long, g.room)) (filled_here _ (left_none n (b - 1) at v e));
         long = omega (arith, g.long, length-set t at (step at at (v + v)));
         room = omega (arith, g.room);
-        value = omega (arith, value-is, bit_small n (b - 1));
+        value = omega (arith, value_is, bit_small n (b - 1));
       }
 
   pub left-turn-one : bit_at n (b - 1) ≡ 1 → LeftLoop n was (b - 1) (set (set t at (step at at (v + v))) (at + 1) (step (at + 1) 0 (v + v + 1))) (at + 1 + 1) (v + v + 1)
@@ -105,10 +105,10 @@ module _ {n : ℕ} {was : List Step} {b : ℕ} {t : List Step} {at v : ℕ} (g :
       record {
         filled =
             filled_more (left_to_right n) was (set t at x) (at + 1) _ _ (omega (arith, g.long, g.room))
-            (filled_more (left_to_right n) was t at x _ (omega (arith, g.long, g.room)) (filled-here _ (left_one n (b - 1) at v e)));
+            (filled_more (left_to_right n) was t at x _ (omega (arith, g.long, g.room)) (filled_here _ (left_one n (b - 1) at v e)));
         long = omega (arith, g.long, length-set (set t at x) (at + 1) (step (at + 1) 0 (v + v + 1)));
         room = omega (arith, g.room);
-        value = omega (arith, value-is);
+        value = omega (arith, value_is);
       }
 
 -- after the last bit

@@ -37,8 +37,8 @@ module _ (m n : ℕ) (half : m / 2 ≡ n) where
       left_none m (suc b) at v (λ (z : bit_at m (suc b) ≡ 1). t (omega arith)) ∙ ap (λ (s : List Step). x ∷ s) i ∙ sym (ap (λ (s : List Step). s ++ left_from m 1 r n) o))
       (cases_eq (bit_at n b) 1)
 
-  left-half : (r : ℕ) → 1 ≤ n → m < 2 ^ 63 → r ≡ length (left_to_right n) → left_to_right m ≡ left_to_right n ++ left_from m 1 r n
-  left-half r l h e =
+  left_half : (r : ℕ) → 1 ≤ n → m < 2 ^ 63 → r ≡ length (left_to_right n) → left_to_right m ≡ left_to_right n ++ left_from m 1 r n
+  left_half r l h e =
       let t : top m ≡ suc (top n) = top_shifted 1 half l h ∙ add-one (top n) in
       ap (λ (x : ℕ). left_from m x 0 1) t ∙ left_split (top n) 0 1 r (sym (top_one n l (omega arith))) (omega arith)
 
@@ -50,10 +50,10 @@ left_to_right_rule =
           let m : ℕ = 2 * n in
           let o = left_none m 0 r n (λ (z : bit_at m 0 ≡ 1). omega (arith, div-one m)) in
           let v : n + n ≡ 2 * n = omega arith in
-          left-half m n (omega arith) r l (omega arith) e ∙ ap (λ (s : List Step). left_to_right n ++ s) (o ∙ ap (λ (x : ℕ). step r r x ∷ []) v);
+          left_half m n (omega arith) r l (omega arith) e ∙ ap (λ (s : List Step). left_to_right n ++ s) (o ∙ ap (λ (x : ℕ). step r r x ∷ []) v);
       odd = λ n r l h e.
           let m : ℕ = 2 * n + 1 in
           let o = left_one m 0 r n (omega (arith, div-one m)) in
           let v : n + n ≡ 2 * n = omega arith in
-          left-half m n (omega arith) r l (omega arith) e ∙ ap (λ (s : List Step). left_to_right n ++ s) (o ∙ ap (λ (x : ℕ). step r r x ∷ step (r + 1) 0 (x + 1) ∷ []) v);
+          left_half m n (omega arith) r l (omega arith) e ∙ ap (λ (s : List Step). left_to_right n ++ s) (o ∙ ap (λ (x : ℕ). step r r x ∷ step (r + 1) 0 (x + 1) ∷ []) v);
     }

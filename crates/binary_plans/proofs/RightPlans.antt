@@ -193,14 +193,14 @@ module _ {n high : ℕ} {was : List Step} {bit : ℕ} {t : List Step} {at v s w 
   left_is : high - bit ≡ suc (high - (bit + 1))
   left_is = omega arith
 
-  square-is : v + v ≡ 2 ^ (bit + 1)
-  square-is = let a : 2 ^ (bit + 1) ≡ 2 ^ bit * 2 = ap (λ (x : ℕ). 2 ^ x) (add-one bit) ∙ pow-suc 2 bit in omega (arith, g.square)
+  square_is : v + v ≡ 2 ^ (bit + 1)
+  square_is = let a : 2 ^ (bit + 1) ≡ 2 ^ bit * 2 = ap (λ (x : ℕ). 2 ^ x) (add-one bit) ∙ pow-suc 2 bit in omega (arith, g.square)
 
   pub square-fits : v + v ≤ 2 ^ 63
-  square-fits = let l : bit + 1 ≤ 63 = omega (arith, g.short) in let p : 2 ^ (bit + 1) ≤ 2 ^ 63 = pow_mono l in omega (arith, square-is)
+  square-fits = let l : bit + 1 ≤ 63 = omega (arith, g.short) in let p : 2 ^ (bit + 1) ≤ 2 ^ 63 = pow_mono l in omega (arith, square_is)
 
-  filled-here : (rest : List Step) → right_from n (suc (high - (bit + 1))) bit at v s w ≡ rest → Filled (right_to_left n) was t at rest
-  filled-here rest e = subst (Filled (right_to_left n) was t at) (ap (λ (x : ℕ). right_from n x bit at v s w) left_is ∙ e) g.filled
+  filled_here : (rest : List Step) → right_from n (suc (high - (bit + 1))) bit at v s w ≡ rest → Filled (right_to_left n) was t at rest
+  filled_here rest e = subst (Filled (right_to_left n) was t at) (ap (λ (x : ℕ). right_from n x bit at v s w) left_is ∙ e) g.filled
 
   -- the square is doubled in any case
   doubled : (t1 : List Step) (at1 s1 w1 : ℕ) → length t1 ≡ length t → at1 ≤ 2 * bit + 1 → s1 ≤ at1 → w1 < v + v → Filled (right_to_left n) was t1 at1 (step at at (v + v) ∷ right_from n (high - (bit + 1)) (bit + 1) (at1 + 1) (v + v) s1 w1) → RightLoop n high was (bit + 1) (set t1 at1 (step at at (v + v))) (at1 + 1) (v + v) s1 w1
@@ -212,38 +212,38 @@ module _ {n high : ℕ} {was : List Step} {bit : ℕ} {t : List Step} {at v s w 
         below = omega arith;
         room = omega arith;
         before = omega arith;
-        square = square-is;
+        square = square_is;
         sum = c;
       }
 
   pub right-turn-none : {t1 : List Step} {at1 s1 w1 : ℕ} → t1 ≡ t → at1 ≡ at → s1 ≡ s → w1 ≡ w → (bit_at n bit ≡ 1 → ⊥) → RightLoop n high was (bit + 1) (set t1 at1 (step at at (v + v))) (at1 + 1) (v + v) s1 w1
   right-turn-none et ea es ew b =
       rw (et, ea, es, ew)
-      (doubled t at s w refl (omega (arith, g.room)) g.before (omega (arith, g.sum)) (filled-here _ (right_none n (high - (bit + 1)) bit at v s w b)))
+      (doubled t at s w refl (omega (arith, g.room)) g.before (omega (arith, g.sum)) (filled_here _ (right_none n (high - (bit + 1)) bit at v s w b)))
 
   pub right-turn-first : {t1 : List Step} {at1 s1 w1 : ℕ} → t1 ≡ t → at1 ≡ at → s1 ≡ at → w1 ≡ v → bit_at n bit ≡ 1 → w ≡ 0 → RightLoop n high was (bit + 1) (set t1 at1 (step at at (v + v))) (at1 + 1) (v + v) s1 w1
   right-turn-first et ea es ew b z =
       rw (et, ea, es, ew)
-      (doubled t at at v refl (omega (arith, g.room)) (omega arith) (omega (arith, g.sum)) (filled-here _ (right_first n (high - (bit + 1)) bit at v s w b z)))
+      (doubled t at at v refl (omega (arith, g.room)) (omega arith) (omega (arith, g.sum)) (filled_here _ (right_first n (high - (bit + 1)) bit at v s w b z)))
 
   pub right-turn-more : {t1 : List Step} {at1 s1 w1 : ℕ} → t1 ≡ set t at (step at s (v + w)) → at1 ≡ at + 1 → s1 ≡ at + 1 → w1 ≡ v + w → bit_at n bit ≡ 1 → (w ≡ 0 → ⊥) → RightLoop n high was (bit + 1) (set t1 at1 (step at at (v + v))) (at1 + 1) (v + v) s1 w1
   right-turn-more et ea es ew b z =
       rw (et, ea, es, ew)
       (doubled (set t at (step at s (v + w))) (at + 1) (at + 1) (v + w) (length-set t at (step at s (v + w))) (omega (arith, g.room)) (omega arith) (omega (arith, g.sum))
-      (filled_more (right_to_left n) was t at _ _ (omega (arith, g.long, g.room, g.short)) (filled-here _ (right_more n (high - (bit + 1)) bit at v s w b z))))
+      (filled_more (right_to_left n) was t at _ _ (omega (arith, g.long, g.room, g.short)) (filled_here _ (right_more n (high - (bit + 1)) bit at v s w b z))))
 
 -- after the last bit below the highest: the square alone is n, or the sum is added to it
 module _ {n high : ℕ} {was : List Step} {bit : ℕ} {t : List Step} {at v s w : ℕ} (low : 1 ≤ n) (bounded : n < 2 ^ 63) (long : 128 ≤ length was) (h : Highest n high) (g : RightLoop n high was bit t at v s w) (end : high ≤ bit) where
-  filled-end : (rest : List Step) → right_from n 0 bit at v s w ≡ rest → Filled (right_to_left n) was t at rest
-  filled-end rest e = let z : high - bit ≡ 0 = omega arith in subst (Filled (right_to_left n) was t at) (ap (λ (x : ℕ). right_from n x bit at v s w) z ∙ e) g.filled
+  filled_end : (rest : List Step) → right_from n 0 bit at v s w ≡ rest → Filled (right_to_left n) was t at rest
+  filled_end rest e = let z : high - bit ≡ 0 = omega arith in subst (Filled (right_to_left n) was t at) (ap (λ (x : ℕ). right_from n x bit at v s w) z ∙ e) g.filled
 
   pub right-done-alone : w ≡ 0 → Finished n (top n + ones n - 1) (right_to_left n) was t at
   right-done-alone z =
       let a : at ≤ 124 = omega (arith, g.room, g.short, g.below) in
-      finished low bounded long (omega arith) (omega (arith, g.long)) (right_all_length n h.one) (right_all_chain n low bounded h.one) (filled-end [] (right_alone n bit at v s w z))
+      finished low bounded long (omega arith) (omega (arith, g.long)) (right_all_length n h.one) (right_all_chain n low bounded h.one) (filled_end [] (right_alone n bit at v s w z))
 
   pub right-done-last : (w ≡ 0 → ⊥) → Finished n (top n + ones n - 1) (right_to_left n) was (set t at (step at s (v + w))) (at + 1)
   right-done-last z =
       let a : at ≤ 124 = omega (arith, g.room, g.short, g.below) in
       finished low bounded long (omega arith) (omega (arith, g.long, length-set t at (step at s (v + w)))) (right_all_length n h.one) (right_all_chain n low bounded h.one)
-      (filled_more (right_to_left n) was t at _ _ (omega (arith, g.long)) (filled-end _ (right_last n bit at v s w z)))
+      (filled_more (right_to_left n) was t at _ _ (omega (arith, g.long)) (filled_end _ (right_last n bit at v s w z)))

@@ -88,8 +88,8 @@ module _ (n : ℕ) (whole : List Step) where
         value = ap (λ (y : List Step). value_at y (at + 1)) e ∙ ap (value_at (p ++ x ∷ rest)) s ∙ value_pushed p x rest;
       }
 
-  square-next : (b v : ℕ) → v ≡ 2 ^ b → v + v ≡ 2 ^ (b + 1)
-  square-next b v e = let p : 2 ^ (b + 1) ≡ 2 ^ b * 2 = ap (λ (x : ℕ). 2 ^ x) (add-one b) ∙ pow-suc 2 b in omega arith
+  square_next : (b v : ℕ) → v ≡ 2 ^ b → v + v ≡ 2 ^ (b + 1)
+  square_next b v e = let p : 2 ^ (b + 1) ≡ 2 ^ b * 2 = ap (λ (x : ℕ). 2 ^ x) (add-one b) ∙ pow-suc 2 b in omega arith
 
   -- what is read out at a bit goes before what is read out after it
   turn : (b : ℕ) (here after end : List (ℕ × ℕ × ℕ)) → additions_at n b ≡ here → additions_below n (b + 1) ++ after ≡ end → additions_below n b ++ (here ++ after) ≡ end
@@ -101,14 +101,14 @@ module _ (n : ℕ) (whole : List Step) where
   triple : {a b c x y z : ℕ} → a ≡ x → b ≡ y → c ≡ z → ◌≡◌ {A = ℕ × ℕ × ℕ} (a, b, c) (x, y, z)
   triple p q r = rw (p, q, r) refl
 
-  read-square : (b at v s w : ℕ) (p rest : List Step) → Reading b at v s w p rest → ◌≡◌ {A = ℕ × ℕ × ℕ} (2 ^ b, 2 ^ b, 2 ^ (b + 1)) (read (step at at (v + v)))
-  read-square b at v s w p rest i = let a = i.last ∙ i.square in triple (sym a) (sym a) (sym (square-next b v i.square))
+  read_square : (b at v s w : ℕ) (p rest : List Step) → Reading b at v s w p rest → ◌≡◌ {A = ℕ × ℕ × ℕ} (2 ^ b, 2 ^ b, 2 ^ (b + 1)) (read (step at at (v + v)))
+  read_square b at v s w p rest i = let a = i.last ∙ i.square in triple (sym a) (sym a) (sym (square_next b v i.square))
 
-  read-sum : (b at v s w : ℕ) (p rest : List Step) → bit_at n b ≡ 1 → (w ≡ 0 → ⊥) → Reading b at v s w p rest → ◌≡◌ {A = ℕ × ℕ × ℕ} (2 ^ b, n % 2 ^ b, n % 2 ^ (b + 1)) (read (step at s (v + w)))
-  read-sum b at v s w p rest t z i = triple (sym (i.last ∙ i.square)) (sym (i.sum z ∙ i.low)) (omega (arith, mod_one n b t, i.square, i.low))
+  read_sum : (b at v s w : ℕ) (p rest : List Step) → bit_at n b ≡ 1 → (w ≡ 0 → ⊥) → Reading b at v s w p rest → ◌≡◌ {A = ℕ × ℕ × ℕ} (2 ^ b, n % 2 ^ b, n % 2 ^ (b + 1)) (read (step at s (v + w)))
+  read_sum b at v s w p rest t z i = triple (sym (i.last ∙ i.square)) (sym (i.sum z ∙ i.low)) (omega (arith, mod_one n b t, i.square, i.low))
 
-  right-read : (left b at v s w : ℕ) (p : List Step) → 1 ≤ n → n < 2 ^ 63 → b + left ≡ top n → Reading b at v s w p (right_from n left b at v s w) → additions_below n b ++ map read (right_from n left b at v s w) ≡ additions_below n (top n + 1)
-  right-read zero b at v s w p l h e i =
+  right_read : (left b at v s w : ℕ) (p : List Step) → 1 ≤ n → n < 2 ^ 63 → b + left ≡ top n → Reading b at v s w p (right_from n left b at v s w) → additions_below n b ++ map read (right_from n left b at v s w) ≡ additions_below n (top n + 1)
+  right_read zero b at v s w p l h e i =
       let t : b ≡ top n = omega arith in
       let one : bit_at n b ≡ 1 = ap (λ (x : ℕ). n / 2 ^ x % 2) t ∙ ap (λ (x : ℕ). x % 2) (top_one n l (omega arith)) in
       let end : additions_below n (b + 1) ++ [] ≡ additions_below n (top n + 1) = append-nil (additions_below n (b + 1)) ∙ ap (λ (x : ℕ). additions_below n (x + 1)) t in
@@ -120,13 +120,13 @@ module _ (n : ℕ) (whole : List Step) where
       (λ (z : w ≡ 0 → ⊥).
       let y : Step = step at s (v + w) in
       ap (λ (q : List Step). additions_below n b ++ map read q) (right_last n b at v s w z)
-      ∙ turn b (read y ∷ []) [] _ (at_sum n b (sum_some n b one (λ k. z (omega arith))) (omega arith) ∙ ap (λ (q : ℕ × ℕ × ℕ). q ∷ []) (read-sum b at v s w p _ one z i)) end)
+      ∙ turn b (read y ∷ []) [] _ (at_sum n b (sum_some n b one (λ k. z (omega arith))) (omega arith) ∙ ap (λ (q : ℕ × ℕ × ℕ). q ∷ []) (read_sum b at v s w p _ one z i)) end)
       (cases_eq w 0)
-  right-read (suc left) b at v s w p l h e i =
+  right_read (suc left) b at v s w p l h e i =
       let f : b + 1 + left ≡ top n = omega arith in
       let less : b < top n = omega arith in
       let x : Step = step at at (v + v) in
-      let square = square-next b v i.square in
+      let square = square_next b v i.square in
       let low = i.low in
       ⊎_elim
       (λ (t : bit_at n b ≡ 1).
@@ -138,8 +138,8 @@ module _ (n : ℕ) (whole : List Step) where
       let j : Reading (b + 1) (at + 1) (v + v) at v (p ++ x ∷ []) rest =
       record { all = k.all; count = k.count; last = k.value; sum = λ _. i.last; square = square; low = omega (arith, mod_one n b t, i.square) } in
       ap (λ (q : List Step). additions_below n b ++ map read q) r
-      ∙ turn b (read x ∷ []) (map read rest) _ (at_square n b (sum_first n b (omega arith)) less ∙ ap (λ (q : ℕ × ℕ × ℕ). q ∷ []) (read-square b at v s w p _ i))
-      (right-read left (b + 1) (at + 1) (v + v) at v (p ++ x ∷ []) l h f j))
+      ∙ turn b (read x ∷ []) (map read rest) _ (at_square n b (sum_first n b (omega arith)) less ∙ ap (λ (q : ℕ × ℕ × ℕ). q ∷ []) (read_square b at v s w p _ i))
+      (right_read left (b + 1) (at + 1) (v + v) at v (p ++ x ∷ []) l h f j))
       (λ (z : w ≡ 0 → ⊥).
       let y : Step = step at s (v + w) in
       let rest : List Step = right_from n left (b + 1) (at + 1 + 1) (v + v) (at + 1) (v + w) in
@@ -151,9 +151,9 @@ module _ (n : ℕ) (whole : List Step) where
       ap (λ (q : List Step). additions_below n b ++ map read q) r
       ∙ turn b (read y ∷ read x ∷ []) (map read rest) _
       (at_both n b (sum_some n b t (λ k. z (omega arith))) less
-      ∙ ap (λ (q : ℕ × ℕ × ℕ). q ∷ (2 ^ b, 2 ^ b, 2 ^ (b + 1)) ∷ []) (read-sum b at v s w p _ t z i)
-      ∙ ap (λ (q : ℕ × ℕ × ℕ). read y ∷ q ∷ []) (read-square b at v s w p _ i))
-      (right-read left (b + 1) (at + 1 + 1) (v + v) (at + 1) (v + w) ((p ++ y ∷ []) ++ x ∷ []) l h f j))
+      ∙ ap (λ (q : ℕ × ℕ × ℕ). q ∷ (2 ^ b, 2 ^ b, 2 ^ (b + 1)) ∷ []) (read_sum b at v s w p _ t z i)
+      ∙ ap (λ (q : ℕ × ℕ × ℕ). read y ∷ q ∷ []) (read_square b at v s w p _ i))
+      (right_read left (b + 1) (at + 1 + 1) (v + v) (at + 1) (v + w) ((p ++ y ∷ []) ++ x ∷ []) l h f j))
       (cases_eq w 0))
       (λ (t : bit_at n b ≡ 1 → ⊥).
       let rest : List Step = right_from n left (b + 1) (at + 1) (v + v) s w in
@@ -162,8 +162,8 @@ module _ (n : ℕ) (whole : List Step) where
       let j : Reading (b + 1) (at + 1) (v + v) s w (p ++ x ∷ []) rest =
       record { all = k.all; count = k.count; last = k.value; sum = i.sum; square = square; low = omega (arith, mod_none n b t) } in
       ap (λ (q : List Step). additions_below n b ++ map read q) r
-      ∙ turn b (read x ∷ []) (map read rest) _ (at_square n b (sum_not n b t) less ∙ ap (λ (q : ℕ × ℕ × ℕ). q ∷ []) (read-square b at v s w p _ i))
-      (right-read left (b + 1) (at + 1) (v + v) s w (p ++ x ∷ []) l h f j))
+      ∙ turn b (read x ∷ []) (map read rest) _ (at_square n b (sum_not n b t) less ∙ ap (λ (q : ℕ × ℕ × ℕ). q ∷ []) (read_square b at v s w p _ i))
+      (right_read left (b + 1) (at + 1) (v + v) s w (p ++ x ∷ []) l h f j))
       (cases_eq (bit_at n b) 1)
 
 pub right_to_left_rule : RightToLeftRule
@@ -172,4 +172,4 @@ right_to_left_rule n l h =
     let none : n % 2 ^ 0 ≡ 0 = omega arith in
     let i : Reading n plan 0 0 1 0 0 [] plan =
     record { all = refl; count = refl; last = refl; sum = λ z. absurd (z refl); square = refl; low = sym none } in
-    ap (λ (x : List (ℕ × ℕ × ℕ)). x ++ map (read_out plan) plan) (sym (below_none n)) ∙ right-read n plan (top n) 0 0 1 0 0 [] l h (omega arith) i
+    ap (λ (x : List (ℕ × ℕ × ℕ)). x ++ map (read_out plan) plan) (sym (below_none n)) ∙ right_read n plan (top n) 0 0 1 0 0 [] l h (omega arith) i

@@ -37,20 +37,20 @@ pub list_made : (calls room : ℕ) → calls ≤ room → Ok tt ≡ list_answer 
 list_made calls room h = simp (le-leb calls room h)
 
 module _ {V : Type 0} where
-  turns-suc : (cs : List (Call V)) (ys : List (Answer V)) (i : ℕ) (c : Call V) (a : Answer V) → i < length cs → i < length ys → c ≡ get_or cs i c
+  turns_suc : (cs : List (Call V)) (ys : List (Answer V)) (i : ℕ) (c : Call V) (a : Answer V) → i < length cs → i < length ys → c ≡ get_or cs i c
       → turns (take (suc i) cs) (set ys i a) ≡ turns (take i cs) ys ++ (record { call = c; answer = a } ∷ [])
-  turns-suc [] ys i c a h k e = absurd (not-suc-le-zero h)
-  turns-suc (x ∷ cs) [] i c a h k e = absurd (not-suc-le-zero k)
-  turns-suc (x ∷ cs) (y ∷ ys) zero c a h k e = ap (λ (z : Call V). record { call = z; answer = a } ∷ []) (sym e)
-  turns-suc (x ∷ cs) (y ∷ ys) (suc i) c a h k e = ap (λ (r : List (Turn V)). record { call = x; answer = y } ∷ r) (turns-suc cs ys i c a (le_of_suc-le-suc h) (le_of_suc-le-suc k) e)
+  turns_suc [] ys i c a h k e = absurd (not-suc-le-zero h)
+  turns_suc (x ∷ cs) [] i c a h k e = absurd (not-suc-le-zero k)
+  turns_suc (x ∷ cs) (y ∷ ys) zero c a h k e = ap (λ (z : Call V). record { call = z; answer = a } ∷ []) (sym e)
+  turns_suc (x ∷ cs) (y ∷ ys) (suc i) c a h k e = ap (λ (r : List (Turn V)). record { call = x; answer = y } ∷ r) (turns_suc cs ys i c a (le_of_suc-le-suc h) (le_of_suc-le-suc k) e)
 
   pub turns_more : (cs : List (Call V)) (ys : List (Answer V)) (i : ℕ) (c : Call V) (a : Answer V) → i < length cs → i < length ys → c ≡ get_or cs i c
       → turns (take (i + 1) cs) (set ys i a) ≡ turns (take i cs) ys ++ (record { call = c; answer = a } ∷ [])
-  turns_more cs ys i c a h k e = rw add-one (turns-suc cs ys i c a h k e)
+  turns_more cs ys i c a h k e = rw add-one (turns_suc cs ys i c a h k e)
 
-  performed-on : (m : Meaning V) (room : ℕ) (b c d : Setting V) (es : List (Turn V)) (e : Turn V) → Performed m room b es c → Made m room e.call c e.answer d → Performed m room b (es ++ (e ∷ [])) d
-  performed-on m room b c d [] e p q = (d, subst (λ (z : Setting V). Made m room e.call z e.answer d) p q, refl)
-  performed-on m room b c d (x ∷ es) e (n, p, r) q = (n, p, performed-on m room n c d es e r q)
+  performed_on : (m : Meaning V) (room : ℕ) (b c d : Setting V) (es : List (Turn V)) (e : Turn V) → Performed m room b es c → Made m room e.call c e.answer d → Performed m room b (es ++ (e ∷ [])) d
+  performed_on m room b c d [] e p q = (d, subst (λ (z : Setting V). Made m room e.call z e.answer d) p q, refl)
+  performed_on m room b c d (x ∷ es) e (n, p, r) q = (n, p, performed_on m room n c d es e r q)
 
   -- one more call, of the kind k that is still m, with a table whose length is still room
   pub performed-more : (m k : Meaning V) (room long : ℕ) (b c d : Setting V) (cs : List (Call V)) (ys : List (Answer V)) (i : ℕ) (x : Call V) (a : Answer V)
@@ -58,68 +58,68 @@ module _ {V : Type 0} where
       → Performed m room b (turns (take i cs) ys) c → Made k long x c a d → Performed m room b (turns (take (i + 1) cs) (set ys i a)) d
   performed-more m k room long b c d cs ys i x a alike size h l is so_far more =
       subst (λ (z : List (Turn V)). Performed m room b z d) (sym (turns_more cs ys i x a h l is))
-      (performed-on m room b c d (turns (take i cs) ys) (record { call = x; answer = a }) so_far
+      (performed_on m room b c d (turns (take i cs) ys) (record { call = x; answer = a }) so_far
       (subst (λ (z : Meaning V). Made z room x c a d) alike (subst (λ (z : ℕ). Made k z x c a d) size more)))
 
-  drop-set : (ys : List (Answer V)) (i : ℕ) (a : Answer V) → drop (suc i) (set ys i a) ≡ drop (suc i) ys
-  drop-set [] i a = refl
-  drop-set (y ∷ ys) zero a = refl
-  drop-set (y ∷ ys) (suc i) a = drop-set ys i a
+  drop_set : (ys : List (Answer V)) (i : ℕ) (a : Answer V) → drop (suc i) (set ys i a) ≡ drop (suc i) ys
+  drop_set [] i a = refl
+  drop_set (y ∷ ys) zero a = refl
+  drop_set (y ∷ ys) (suc i) a = drop_set ys i a
 
-  drop-next : (ys : List (Answer V)) (i : ℕ) → drop (suc i) ys ≡ drop 1 (drop i ys)
-  drop-next [] zero = refl
-  drop-next [] (suc i) = refl
-  drop-next (y ∷ ys) zero = refl
-  drop-next (y ∷ ys) (suc i) = drop-next ys i
+  drop_next : (ys : List (Answer V)) (i : ℕ) → drop (suc i) ys ≡ drop 1 (drop i ys)
+  drop_next [] zero = refl
+  drop_next [] (suc i) = refl
+  drop_next (y ∷ ys) zero = refl
+  drop_next (y ∷ ys) (suc i) = drop_next ys i
 
   pub drop_more : (ys zs : List (Answer V)) (i : ℕ) (a : Answer V) → drop i ys ≡ drop i zs → drop (i + 1) (set ys i a) ≡ drop (i + 1) zs
-  drop_more ys zs i a e = rw add-one (drop-set ys i a ∙ drop-next ys i ∙ ap (drop 1) e ∙ sym (drop-next zs i))
+  drop_more ys zs i a e = rw add-one (drop_set ys i a ∙ drop_next ys i ∙ ap (drop 1) e ∙ sym (drop_next zs i))
 
   -- what each call owes to the law
-  load-effect : (m : Meaning V) (s t : State V) (i : ℕ) (v : V) (f : Option Refusal) → t ≡ settle f s (loaded s i v) → Effect m s (record { run = None; given = None }) t
-  load-effect m s t i v (Some e) q = still_effect m s t q
-  load-effect m s t i v None q =
+  load_effect : (m : Meaning V) (s t : State V) (i : ℕ) (v : V) (f : Option Refusal) → t ≡ settle f s (loaded s i v) → Effect m s (record { run = None; given = None }) t
+  load_effect m s t i v (Some e) q = still_effect m s t q
+  load_effect m s t i v None q =
       subst (λ (z : State V). Effect m s (record { run = None; given = None }) z) (sym q)
       (plain_effect m s (loaded s i v) refl (length-set s.cells i (Some v), refl))
 
-  run-effect : (m : Meaning V) (s t : State V) (n : ℕ) (steps : List Step) (x : V) (f : Option Refusal) → run_fault m s steps x ≡ f
+  run_effect : (m : Meaning V) (s t : State V) (n : ℕ) (steps : List Step) (x : V) (f : Option Refusal) → run_fault m s steps x ≡ f
       → Ran m s n steps x (answer f (record { value = power m x n })) t
       → Effect m s (record { run = Some (asked m n steps x); given = handed_out (answer f (record { value = power m x n })) }) t
-  run-effect m s t n steps x (Some e) is q = refused-effect m s n steps x e t is q
-  run-effect m s t n steps x None is q = accepted-effect m s n steps x (power m x n) t is q
+  run_effect m s t n steps x (Some e) is q = refused-effect m s n steps x e t is q
+  run_effect m s t n steps x None is q = accepted-effect m s n steps x (power m x n) t is q
 
-  handed-staged : (g : Stage) (r : Result (Raised V) Refusal) → handed_out (staged g r) ≡ handed_out r
-  handed-staged g (Ok y) = refl
-  handed-staged g (Err e) = refl
+  handed_staged : (g : Stage) (r : Result (Raised V) Refusal) → handed_out (staged g r) ≡ handed_out r
+  handed_staged g (Ok y) = refl
+  handed_staged g (Err e) = refl
 
-  admitted-effect : (m : Meaning V) (s t : State V) (n : ℕ) (x : V) (steps : List Step) (v : Result (Unit {0}) Refusal) → admission n steps ≡ v
+  admitted_effect : (m : Meaning V) (s t : State V) (n : ℕ) (x : V) (steps : List Step) (v : Result (Unit {0}) Refusal) → admission n steps ≡ v
       → Jobbed m s n x (if_admitted v steps) t
       → Effect m s (record { run = option_map (λ z. asked m n z x) (if_admitted v steps); given = handed_out (job_answer m s (Ok steps) n x) }) t
-  admitted-effect m s t n x steps (Err e) is q = rw is (still_effect m s t q)
-  admitted-effect m s t n x steps (Ok u) is q =
-      rw (is, handed-staged Running (run_answer m s n steps x)) (run-effect m s t n steps x (run_fault m s steps x) refl q)
+  admitted_effect m s t n x steps (Err e) is q = rw is (still_effect m s t q)
+  admitted_effect m s t n x steps (Ok u) is q =
+      rw (is, handed_staged Running (run_answer m s n steps x)) (run_effect m s t n steps x (run_fault m s steps x) refl q)
 
-  job-effect : (m : Meaning V) (s t : State V) (n : ℕ) (x : V) (sheet : Result (List Step) Refusal) → Jobbed m s n x (job_plan sheet n) t
+  job_effect : (m : Meaning V) (s t : State V) (n : ℕ) (x : V) (sheet : Result (List Step) Refusal) → Jobbed m s n x (job_plan sheet n) t
       → Effect m s (record { run = option_map (λ z. asked m n z x) (job_plan sheet n); given = handed_out (job_answer m s sheet n x) }) t
-  job-effect m s t n x (Err e) q = still_effect m s t q
-  job-effect m s t n x (Ok steps) q = admitted-effect m s t n x steps (admission n steps) refl q
+  job_effect m s t n x (Err e) q = still_effect m s t q
+  job_effect m s t n x (Ok steps) q = admitted_effect m s t n x steps (admission n steps) refl q
 
-  made-effect : (m : Meaning V) (room : ℕ) (p : Plan) (act : Act V) (b : Setting V) (a : Answer V) (d : Setting V) → MadeBy m room p act b a d
+  made_effect : (m : Meaning V) (room : ℕ) (p : Plan) (act : Act V) (b : Setting V) (a : Answer V) (d : Setting V) → MadeBy m room p act b a d
       → Effect m b.unit (record { run = asks m room p act; given = gives a }) d.unit
-  made-effect m room p (Load i v) b a d (e, q, _) =
-      subst (λ (z : Answer V). Effect m b.unit (record { run = None; given = gives z }) d.unit) (sym e) (load-effect m b.unit d.unit i v (load_fault m b.unit i v) q)
-  made-effect m room p (Read i) b a d (e, q, _) =
+  made_effect m room p (Load i v) b a d (e, q, _) =
+      subst (λ (z : Answer V). Effect m b.unit (record { run = None; given = gives z }) d.unit) (sym e) (load_effect m b.unit d.unit i v (load_fault m b.unit i v) q)
+  made_effect m room p (Read i) b a d (e, q, _) =
       subst (λ (z : Answer V). Effect m b.unit (record { run = None; given = gives z }) d.unit) (sym e) (still_effect m b.unit d.unit q)
-  made-effect m room p (Run x) b a d (e, q, _) =
+  made_effect m room p (Run x) b a d (e, q, _) =
       subst (λ (z : Answer V). Effect m b.unit (record { run = asks m room p (Run x); given = gives z }) d.unit) (sym e)
-      (run-effect m b.unit d.unit p.exponent p.steps.now x (run_fault m b.unit p.steps.now x) refl q)
-  made-effect m room p (Job text n x) b a d (e, q, _) =
+      (run_effect m b.unit d.unit p.exponent p.steps.now x (run_fault m b.unit p.steps.now x) refl q)
+  made_effect m room p (Job text n x) b a d (e, q, _) =
       subst (λ (z : Answer V). Effect m b.unit (record { run = asks m room p (Job text n x); given = gives z }) d.unit) (sym e)
-      (job-effect m b.unit d.unit n x (read_sheet text.now room) q)
+      (job_effect m b.unit d.unit n x (read_sheet text.now room) q)
 
   effects : (m : Meaning V) (room : ℕ) (b : Setting V) (es : List (Turn V)) (d : Setting V) → Performed m room b es d → InTurn m b.unit (map (event_of m room) es) d.unit
   effects m room b [] d q = ap (λ (z : Setting V). z.unit) q
-  effects m room b (e ∷ es) d (c, p, q) = (c.unit, made-effect m room e.call.plan e.call.act b e.answer c p, effects m room c es d q)
+  effects m room b (e ∷ es) d (c, p, q) = (c.unit, made_effect m room e.call.plan e.call.act b e.answer c p, effects m room c es d q)
 
   pub law-of : (m : Meaning V) (room : ℕ) (b : Setting V) (es : List (Turn V)) (d : Setting V) → Performed m room b es d → Law m b.unit (map (event_of m room) es) d.unit
   law-of m room b es d done = lawful m b.unit d.unit (map (event_of m room) es) (effects m room b es d done)

@@ -66,24 +66,24 @@ module _ {k n m place : ℕ} {t : List Step} {len from v : ℕ} {whole : List St
   down : place ≡ suc (place - 1)
   down = omega arith
 
-  digit-is : here ≡ digit k n (place - 1)
-  digit-is = ap (λ (x : ℕ). n / 2 ^ ((place - 1) * k) % x) is
+  digit_is : here ≡ digit k n (place - 1)
+  digit_is = ap (λ (x : ℕ). n / 2 ^ ((place - 1) * k) % x) is
 
-  value-is : n / 2 ^ ((place - 1) * k) ≡ v * 2 ^ k + here
-  value-is =
+  value_is : n / 2 ^ ((place - 1) * k) ≡ v * 2 ^ k + here
+  value_is =
       value_digit k n (place - 1)
       ∙ ap (λ (x : ℕ). x * 2 ^ k + digit k n (place - 1)) (ap (λ (x : ℕ). n / 2 ^ (x * k)) (sym down) ∙ sym g.value)
-      ∙ ap (λ (x : ℕ). v * 2 ^ k + x) (sym digit-is)
+      ∙ ap (λ (x : ℕ). v * 2 ^ k + x) (sym digit_is)
 
-  room-is : (k + 1) * place ≡ (k + 1) * (place - 1) + (k + 1)
-  room-is = ap (λ (x : ℕ). (k + 1) * x) down ∙ mul-suc (k + 1) (place - 1)
+  room_is : (k + 1) * place ≡ (k + 1) * (place - 1) + (k + 1)
+  room_is = ap (λ (x : ℕ). (k + 1) * x) down ∙ mul-suc (k + 1) (place - 1)
 
   pub turn : Turn k n len v here
   turn =
       record {
-        digit = omega (arith, digit-is, digit_below k n (place - 1));
-        within = omega (arith, value-is, shr_le n ((place - 1) * k));
-        room = omega (arith, g.room, room-is);
+        digit = omega (arith, digit_is, digit_below k n (place - 1));
+        within = omega (arith, value_is, shr_le n ((place - 1) * k));
+        room = omega (arith, g.room, room_is);
       }
 
   pub turned : (t1 : List Step) (len1 : ℕ) → t1 ≡ sets t len (one_digit k here len from v) → len1 ≡ len + length (one_digit k here len from v) → Turning k n (place - 1) t1 len1 len1 (v * m + here) whole total
@@ -99,10 +99,10 @@ module _ {k n m place : ℕ} {t : List Step} {len from v : ℕ} {whole : List St
         table = ap (λ (x : List Step). sets x len1 rest) et ∙ ap (λ (x : ℕ). sets (sets t len one) x rest) el ∙ sym (sets_append t len one rest) ∙ sym (ap (sets t len) e) ∙ g.table;
         count = omega (arith, g.count, ap length e, length-append one rest);
         long = omega (arith, g.long, ap length et, length-sets t len one);
-        room = omega (arith, g.room, room-is);
+        room = omega (arith, g.room, room_is);
         before = omega arith;
         positive = omega (arith, g.positive, mul-one v);
-        value = w ∙ sym value-is;
+        value = w ∙ sym value_is;
         shift = omega (arith, g.shift);
       }
 
@@ -137,8 +137,8 @@ module _ {k n m : ℕ} {was t : List Step} {len place : ℕ} (l : Listed k n m w
   len_is : len ≡ 2 ^ k - 2
   len_is = omega (arith, l.is, l.count)
 
-  list-is : t ≡ sets was 0 (count_from len 0)
-  list-is = l.table ∙ ap (λ (x : ℕ). sets was 0 (count_from x 0)) (sym l.count)
+  list_is : t ≡ sets was 0 (count_from len 0)
+  list_is = l.table ∙ ap (λ (x : ℕ). sets was 0 (count_from x 0)) (sym l.count)
 
   plan_is : digits_plan k n ≡ count_from len 0 ++ from place len
   plan_is =
@@ -150,7 +150,7 @@ module _ {k n m : ℕ} {was t : List Step} {len place : ℕ} (l : Listed k n m w
   pub listed-table : sets t len (from place len) ≡ sets was 0 (digits_plan k n)
   listed-table =
       let e : len ≡ 0 + length (count_from len 0) = omega (arith, count_length len 0) in
-      ap (λ (x : List Step). sets x len (from place len)) list-is
+      ap (λ (x : List Step). sets x len (from place len)) list_is
       ∙ ap (λ (x : ℕ). sets (sets was 0 (count_from len 0)) x (from place len)) e
       ∙ sym (sets_append was 0 (count_from len 0) (from place len))
       ∙ ap (sets was 0) (sym plan_is)
@@ -170,7 +170,7 @@ module _ {k n m : ℕ} {was t : List Step} {len place : ℕ} (l : Listed k n m w
       record {
         table = refl;
         count = refl;
-        long = omega (arith, ap length list-is, length-sets was 0 (count_from len 0));
+        long = omega (arith, ap length list_is, length-sets was 0 (count_from len 0));
         room = omega (arith, len_is, room_all k place a b (omega (arith, y.within)));
         before = omega (arith, len_is, y.below);
         positive = top-positive a c;

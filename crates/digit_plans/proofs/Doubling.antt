@@ -42,11 +42,11 @@ module _ {width value from at : ℕ} {was : List Step} {i : ℕ} {t : List Step}
   left_is : width - i ≡ suc (width - (i + 1))
   left_is = omega arith
 
-  value-is : (v + v) * 2 ^ (width - (i + 1)) ≡ value * 2 ^ width
-  value-is = sym (double_value v (width - (i + 1))) ∙ ap (λ (x : ℕ). v * 2 ^ x) (sym left_is) ∙ g.whole
+  value_is : (v + v) * 2 ^ (width - (i + 1)) ≡ value * 2 ^ width
+  value_is = sym (double_value v (width - (i + 1))) ∙ ap (λ (x : ℕ). v * 2 ^ x) (sym left_is) ∙ g.whole
 
   pub twice-fits : value * 2 ^ width < 2 ^ 63 → v + v < 2 ^ 63
-  twice-fits h = omega (arith, value-is, at_most_times (v + v) (width - (i + 1)))
+  twice-fits h = omega (arith, value_is, at_most_times (v + v) (width - (i + 1)))
 
   pub doubling-low : (t1 : List Step) (len1 s1 : ℕ) → t1 ≡ t → len1 ≡ len → s1 ≡ v + v - 1 → v + v < 2 ^ width → 2 ^ width ≤ 32 → Doubling width value from at was (i + 1) t1 len1 s1 (v + v)
   doubling-low t1 len1 s1 et el es h b =
@@ -59,7 +59,7 @@ module _ {width value from at : ℕ} {was : List Step} {i : ℕ} {t : List Step}
         most = omega (arith, g.most);
         earlier = omega arith;
         positive = omega (arith, g.positive);
-        whole = value-is;
+        whole = value_is;
       }
 
   pub doubling-high : (t1 : List Step) (len1 s1 : ℕ) → t1 ≡ set t len (step source source (v + v)) → len1 ≡ len + 1 → s1 ≡ len + 1 → 2 ^ width ≤ v + v → Doubling width value from at was (i + 1) t1 len1 s1 (v + v)
@@ -75,7 +75,7 @@ module _ {width value from at : ℕ} {was : List Step} {i : ℕ} {t : List Step}
         most = omega (arith, g.most);
         earlier = omega (arith, g.most);
         positive = omega (arith, g.positive);
-        whole = value-is;
+        whole = value_is;
       }
 
 pub doubling_done : {width value from at : ℕ} {was : List Step} {i : ℕ} {t : List Step} {len source v : ℕ} → width ≤ i → Doubling width value from at was i t len source v

@@ -16,41 +16,41 @@ use Rattle.factor_plans.proofs.Divisors.{divisor_least, least_same, divisor-le, 
 -- ---- the rule
 
 module _ (plan : ℕ → List Step) (n p : ℕ) where
-  body-one : n < 2 → factor_body plan n p ≡ []
+  body_one : n < 2 → factor_body plan n p ≡ []
   unfolding factor_body
-  body-one h = let t : leb n 1 ≡ true = le-leb _ _ (omega arith) in rw t refl
+  body_one h = let t : leb n 1 ≡ true = le-leb _ _ (omega arith) in rw t refl
 
-  body-prime : 1 < n → p ≡ n → factor_body plan n p ≡ and_one (plan (n - 1)) n
+  body_prime : 1 < n → p ≡ n → factor_body plan n p ≡ and_one (plan (n - 1)) n
   unfolding factor_body
-  body-prime h e = let t : leb n 1 ≡ false = lt-leb _ _ h in let u : eqb p n ≡ true = eq-eqb _ _ e in rw (t, u) refl
+  body_prime h e = let t : leb n 1 ≡ false = lt-leb _ _ h in let u : eqb p n ≡ true = eq-eqb _ _ e in rw (t, u) refl
 
-  body-split : 1 < n → (p ≡ n → ⊥) → factor_body plan n p ≡ followed (plan p) p (plan (n / p))
+  body_split : 1 < n → (p ≡ n → ⊥) → factor_body plan n p ≡ followed (plan p) p (plan (n / p))
   unfolding factor_body
-  body-split h e = let t : leb n 1 ≡ false = lt-leb _ _ h in let u : eqb p n ≡ false = ne_eqb _ _ e in rw (t, u) refl
+  body_split h e = let t : leb n 1 ≡ false = lt-leb _ _ h in let u : eqb p n ≡ false = ne_eqb _ _ e in rw (t, u) refl
 
 -- the plans of smaller numbers are all that it takes
 body_same : (f g : ℕ → List Step) (n p : ℕ) → (1 < n → Least n p) → ((m : ℕ) → m < n → f m ≡ g m) → factor_body f n p ≡ factor_body g n p
 body_same f g n p least same =
     ⊎_elim
-    (λ (h : n < 2). body-one f n p h ∙ sym (body-one g n p h))
+    (λ (h : n < 2). body_one f n p h ∙ sym (body_one g n p h))
     (λ (h : 2 ≤ n).
     ⊎_elim
-    (λ (e : p ≡ n). body-prime f n p h e ∙ ap (λ (s : List Step). and_one s n) (same (n - 1) (omega arith)) ∙ sym (body-prime g n p h e))
+    (λ (e : p ≡ n). body_prime f n p h e ∙ ap (λ (s : List Step). and_one s n) (same (n - 1) (omega arith)) ∙ sym (body_prime g n p h e))
     (λ (e : p ≡ n → ⊥).
     let pos : 1 ≤ n = omega arith in
     let l : p < n = omega (arith, divisor-le n p pos (least h)) in
-    body-split f n p h e
+    body_split f n p h e
     ∙ ap (λ (s : List Step). followed s p (f (n / p))) (same p l)
     ∙ ap (λ (s : List Step). followed (g p) p s) (same (n / p) (quotient-less n p pos (least h)))
-    ∙ sym (body-split g n p h e))
+    ∙ sym (body_split g n p h e))
     (cases_eq p n))
     (cases_lt n 2)
 
 with_same : (f g n : ℕ) → n ≤ f → n ≤ g → factor_with f n ≡ factor_with g n
 unfolding factor_with
 with_same zero zero n h k = refl
-with_same zero (suc g) n h k = sym (body-one (factor_with g) n (least_divisor n) (omega arith))
-with_same (suc f) zero n h k = body-one (factor_with f) n (least_divisor n) (omega arith)
+with_same zero (suc g) n h k = sym (body_one (factor_with g) n (least_divisor n) (omega arith))
+with_same (suc f) zero n h k = body_one (factor_with f) n (least_divisor n) (omega arith)
 with_same (suc f) (suc g) n h k = body_same (factor_with f) (factor_with g) n (least_divisor n) (divisor_least n) (λ m l. with_same f g m (omega arith) (omega arith))
 
 plan_is : (n : ℕ) → 1 ≤ n → factor_plan n ≡ factor_body factor_plan n (least_divisor n)
@@ -61,12 +61,12 @@ plan_is (suc n) h = body_same (factor_with n) factor_plan (suc n) (least_divisor
 pub factor_none : (n : ℕ) → n < 2 → factor_plan n ≡ []
 unfolding factor_plan factor_with
 factor_none zero h = refl
-factor_none (suc n) h = plan_is (suc n) (omega arith) ∙ body-one factor_plan (suc n) (least_divisor (suc n)) h
+factor_none (suc n) h = plan_is (suc n) (omega arith) ∙ body_one factor_plan (suc n) (least_divisor (suc n)) h
 
 pub factor_prime : (n : ℕ) → Least n n → factor_plan n ≡ and_one (factor_plan (n - 1)) n
 factor_prime n a =
     let h : 1 < n = a.above in
-    plan_is n (omega arith) ∙ body-prime factor_plan n (least_divisor n) h (least_same n (least_divisor n) n (divisor_least n h) a)
+    plan_is n (omega arith) ∙ body_prime factor_plan n (least_divisor n) h (least_same n (least_divisor n) n (divisor_least n h) a)
 
 pub factor_split : (n p : ℕ) → Least n p → p < n → factor_plan n ≡ followed (factor_plan p) p (factor_plan (n / p))
 factor_split n p a l =
@@ -74,7 +74,7 @@ factor_split n p a l =
     let e : least_divisor n ≡ p = least_same n (least_divisor n) p (divisor_least n h) a in
     plan_is n (omega arith)
     ∙ ap (factor_body factor_plan n) e
-    ∙ body-split factor_plan n p h (λ q. omega arith)
+    ∙ body_split factor_plan n p h (λ q. omega arith)
 
 pub factor_rule : FactorRule
 factor_rule =

@@ -26,9 +26,9 @@ module _ (a b : List Step) (p q : ℕ) (pos : 1 ≤ p) (ends : last_value a ≡ 
   step_past : (m : ℕ) → m < length b → step_at all (length a + m) ≡ shifted (length a) p (step_at b m)
   step_past m h = get_or-append-add a (map (shifted (length a) p) b) m no_step ∙ get_or-map (shifted (length a) p) b m no_step no_step h
 
-  value-past : (m : ℕ) → m ≤ length b → value_at all (length a + m) ≡ value_at b m * p
-  value-past zero h = ap (value_at all) (add-zero (length a)) ∙ value_append a (map (shifted (length a) p) b) (length a) (omega arith) ∙ ends ∙ omega arith
-  value-past (suc m) h =
+  value_past : (m : ℕ) → m ≤ length b → value_at all (length a + m) ≡ value_at b m * p
+  value_past zero h = ap (value_at all) (add-zero (length a)) ∙ value_append a (map (shifted (length a) p) b) (length a) (omega arith) ∙ ends ∙ omega arith
+  value_past (suc m) h =
       ap (value_at all) (add-suc (length a) m)
       ∙ value_suc all (length a + m)
       ∙ ap (λ (x : Step). x.value) (step_past m (omega arith))
@@ -38,19 +38,19 @@ module _ (a b : List Step) (p q : ℕ) (pos : 1 ≤ p) (ends : last_value a ≡ 
   length_all = length-append a (map (shifted (length a) p) b) ∙ ap (λ (x : ℕ). length a + x) (length-map b (shifted (length a) p))
 
   pub last-scaled : last_value all ≡ last_value b * p
-  last-scaled = ap (value_at all) length_all ∙ value-past (length b) (omega arith)
+  last-scaled = ap (value_at all) length_all ∙ value_past (length b) (omega arith)
 
-  fits-scaled : (m : ℕ) (x : Step) → m < length b → Fits q (value_at b) m x → Fits (q * p) (value_at all) (length a + m) (shifted (length a) p x)
-  fits-scaled m x h f =
+  fits_scaled : (m : ℕ) (x : Step) → m < length b → Fits q (value_at b) m x → Fits (q * p) (value_at all) (length a + m) (shifted (length a) p x)
+  fits_scaled m x h f =
       let o = f.ordered in
       let l = f.earlier in
       let cited : (i : ℕ) → i ≤ length b → value_at all (i + length a) ≡ value_at b i * p =
-      λ i k. let e : i + length a ≡ length a + i = omega arith in ap (value_at all) e ∙ value-past i k in
+      λ i k. let e : i + length a ≡ length a + i = omega arith in ap (value_at all) e ∙ value_past i k in
       record {
         ordered = omega arith;
         earlier = omega arith;
         sum = ap (λ (y : ℕ). y * p) f.sum ∙ add-mul (value_at b x.j) (value_at b x.k) p ∙ omega (arith, cited x.j (omega arith), cited x.k (omega arith));
-        rises = omega (arith, value-past m (omega arith), mul-lt-mul_of_pos_right f.rises pos);
+        rises = omega (arith, value_past m (omega arith), mul-lt-mul_of_pos_right f.rises pos);
         within = mul-le-mul f.within (omega arith);
       }
 
@@ -65,7 +65,7 @@ module _ (a b : List Step) (p q : ℕ) (pos : 1 ≤ p) (ends : last_value a ≡ 
       let e : length a + m ≡ i = omega arith in
       let k : m < length b = omega (arith, length_all) in
       subst (λ (y : ℕ). Fits (q * p) (value_at all) y (step_at all y)) e
-      (subst (Fits (q * p) (value_at all) (length a + m)) (sym (step_past m k)) (fits-scaled m (step_at b m) k (gb m k))))
+      (subst (Fits (q * p) (value_at all) (length a + m)) (sym (step_past m k)) (fits_scaled m (step_at b m) k (gb m k))))
       (cases_lt i (length a))
 
 -- ---- the plan of the factor method is a chain for n

@@ -36,16 +36,16 @@ pub outset_is : (rows : List Record) (len : ℕ) (below : State Count) → len �
 outset_is rows len below p q = ap (λ (z : ℕ). sheeted rows z below) p ∙ ap (λ (z : State Count). sheeted rows 0 z) q
 
 module _ (n : ℕ) (steps : List Step) (chain : Chain n steps) where
-  outset-fault : run_fault counting outset steps one_count ≡ rehearsal_fault steps
-  outset-fault =
+  outset_fault : run_fault counting outset steps one_count ≡ rehearsal_fault steps
+  outset_fault =
       let enough : unless (leb (length steps) 128) (AllowanceBelow (length steps)) ≡ None = unless_none (leb (length steps) 128) (AllowanceBelow (length steps)) (le-leb (length steps) 128 chain.short) in
       ap (first (rehearsal_fault steps)) enough ∙ first_last (rehearsal_fault steps)
 
-  pub fault-is : (s : State Count) → s ≡ outset → run_fault counting s steps one_count ≡ rehearsal_fault steps
-  fault-is s e = ap (λ (z : State Count). run_fault counting z steps one_count) e ∙ outset-fault
+  pub fault_is : (s : State Count) → s ≡ outset → run_fault counting s steps one_count ≡ rehearsal_fault steps
+  fault_is s e = ap (λ (z : State Count). run_fault counting z steps one_count) e ∙ outset_fault
 
-  values-small : (i : ℕ) → get_or (map (λ x. x.value) steps) i 0 < 2 ^ 63
-  values-small i =
+  values_small : (i : ℕ) → get_or (map (λ x. x.value) steps) i 0 < 2 ^ 63
+  values_small i =
       ⊎_elim
       (λ (h : i < length steps).
       let r = chain.rises i h in
@@ -58,9 +58,9 @@ module _ (n : ℕ) (steps : List Step) (chain : Chain n steps) where
       omega arith)
       (cases_lt i (length steps))
 
-  sums-long : (cells : List ℕ) (rs : List Record) → length (sums cells rs) ≡ length rs
-  sums-long cells [] = refl
-  sums-long cells (r ∷ rs) = ap (λ (z : ℕ). suc z) (sums-long (set cells r.to (sum_of cells r)) rs)
+  sums_long : (cells : List ℕ) (rs : List Record) → length (sums cells rs) ≡ length rs
+  sums_long cells [] = refl
+  sums_long cells (r ∷ rs) = ap (λ (z : ℕ). suc z) (sums_long (set cells r.to (sum_of cells r)) rs)
 
   -- after the run, with `len` of the rows in use
   module _ (s : State Count) (begun : s ≡ outset) (y : Count) (t : State Count) (done : Success counting s n steps one_count y t)
@@ -83,13 +83,13 @@ module _ (n : ℕ) (steps : List Step) (chain : Chain n steps) where
     pub len_is : len ≡ length steps
     len_is =
         let long : length (take len rows) ≡ len = simp length-take (omega arith) in
-        sym long ∙ sym (sums-long (one_in 32 0) (take len rows)) ∙ ap length (sums_are 0 refl) ∙ length-map steps (λ x. x.value)
+        sym long ∙ sym (sums_long (one_in 32 0) (take len rows)) ∙ ap length (sums_are 0 refl) ∙ length-map steps (λ x. x.value)
 
     pub few : len ≤ 128
     few = let b = chain.short in omega (arith, len_is)
 
     pub sums-small : (start : ℕ) → start ≡ 0 → (i : ℕ) → get_or (sums (one_in 32 start) (take len rows)) i 0 < 2 ^ 63
-    sums-small start h i = subst (λ (z : List ℕ). get_or z i 0 < 2 ^ 63) (sym (sums_are start h)) (values-small i)
+    sums-small start h i = subst (λ (z : List ℕ). get_or z i 0 < 2 ^ 63) (sym (sums_are start h)) (values_small i)
 
     pub front-is : (start : ℕ) → start ≡ 0 → (was : List ℕ) → sums (one_in 32 start) (take len rows) ++ drop len was ≡ map (λ x. x.value) steps ++ drop (length steps) was
     front-is start h was =

@@ -76,19 +76,19 @@ module _ (s p : List Step) (is : p ≡ trimmed s) where
         answer_err (fit_fault m u s x) e (found m u n s x)
         (ap (λ (z : Option Refusal). first z (run_fault m u (trimmed s) x)) (sym (ap rehearsal_fault is) ∙ h))
 
-    fault-is : rehearsal_fault p ≡ None → fit_fault m u s x ≡ run_fault m u p x
-    fault-is h =
+    fault_is : rehearsal_fault p ≡ None → fit_fault m u s x ≡ run_fault m u p x
+    fault_is h =
         ap (λ (z : Option Refusal). first z (run_fault m u (trimmed s) x)) (sym (ap rehearsal_fault is) ∙ h)
         ∙ ap (λ (z : List Step). run_fault m u z x) (sym is)
 
     pub not-run : (e : Refusal) → rehearsal_fault p ≡ None → run_fault m u p x ≡ Some e → Err e ≡ fit_answer m u n s x
-    not-run e h k = answer_err (fit_fault m u s x) e (found m u n s x) (fault-is h ∙ k)
+    not-run e h k = answer_err (fit_fault m u s x) e (found m u n s x) (fault_is h ∙ k)
 
     pub fits : (a b : Size) (y : V) (l : ℕ) → rehearsal_fault p ≡ None → run_fault m u p x ≡ None
         → a ≡ size_of s → b ≡ size_of p → y ≡ power m x n → l ≡ u.left - length p
         → Ok (record { plan = a; trimmed = b; power = y; left = l }) ≡ fit_answer m u n s x
     fits a b y l h k ha hb hy hl =
-        answer_ok (fit_fault m u s x) (record { plan = a; trimmed = b; power = y; left = l }) (found m u n s x) (fault-is h ∙ k)
+        answer_ok (fit_fault m u s x) (record { plan = a; trimmed = b; power = y; left = l }) (found m u n s x) (fault_is h ∙ k)
         (ap (λ (z : Size). record { plan = z; trimmed = b; power = y; left = l }) ha
         ∙ ap (λ (z : Size). record { plan = size_of s; trimmed = z; power = y; left = l }) (hb ∙ ap size_of is)
         ∙ ap (λ (z : V). record { plan = size_of s; trimmed = size_of (trimmed s); power = z; left = l }) hy

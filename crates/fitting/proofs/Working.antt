@@ -22,8 +22,8 @@ worked_none all was cells = record { sums_are = refl; rest = refl }
 
 -- the records of a run sheet of which `len` places are in use
 module _ (rows : List Record) (len : ℕ) (fits : len ≤ length rows) where
-  all-long : length (take len rows) ≡ len
-  all-long = simp length-take (omega arith)
+  all_long : length (take len rows) ≡ len
+  all_long = simp length-take (omega arith)
 
   -- there is a record of each number up to their count
   pub is-there : (i : ℕ) → i < len → Some (get_or rows i no_record) ≡ numbered (take len rows) (i + 1)
@@ -37,9 +37,9 @@ module _ (rows : List Record) (len : ℕ) (fits : len ≤ length rows) where
       absurd (let z : ◌≡◌ {A = ℕ} 0 1 = cc in omega arith)
 
   -- the record of the number i + 1 stands first among those that are left
-  next-is : (i : ℕ) (r : Record) → i < len → Some r ≡ numbered (take len rows) (i + 1) → drop i (take len rows) ≡ r ∷ drop (i + 1) (take len rows)
-  next-is i r h e =
-      let k : i < length (take len rows) = omega (arith, all-long) in
+  next_is : (i : ℕ) (r : Record) → i < len → Some r ≡ numbered (take len rows) (i + 1) → drop i (take len rows) ≡ r ∷ drop (i + 1) (take len rows)
+  next_is i r h e =
+      let k : i < length (take len rows) = omega (arith, all_long) in
       let d = is-there i h in
       let same : get_or rows i no_record ≡ r = cc in
       drop-cons (take len rows) i no_record k
@@ -55,7 +55,7 @@ module _ (rows : List Record) (len : ℕ) (fits : len ≤ length rows) where
     cells' = set cells r.to sum
 
     before : whole ≡ take i out ++ (sum ∷ sums cells' (drop (i + 1) (take len rows)))
-    before = w.sums-are ∙ ap (λ (z : List Record). take i out ++ sums cells z) (next-is i r h is)
+    before = w.sums-are ∙ ap (λ (z : List Record). take i out ++ sums cells z) (next_is i r h is)
 
     -- its sum is one of the whole
     pub sum-at : get_or whole i 0 ≡ sum
@@ -79,6 +79,6 @@ module _ (rows : List Record) (len : ℕ) (fits : len ≤ length rows) where
   worked-all whole was out cells i h k w =
       let e : i ≡ len = omega arith in
       let v : Worked whole (take len rows) was out cells len = subst (λ (z : ℕ). Worked whole (take len rows) was out cells z) e w in
-      let none : drop len (take len rows) ≡ [] = ap (λ (z : ℕ). drop z (take len rows)) (sym all-long) ∙ drop-length (take len rows) in
+      let none : drop len (take len rows) ≡ [] = ap (λ (z : ℕ). drop z (take len rows)) (sym all_long) ∙ drop-length (take len rows) in
       let done : whole ≡ take len out = v.sums_are ∙ ap (λ (z : List Record). take len out ++ sums cells z) none ∙ append-nil (take len out) in
       sym (take-append-drop len out) ∙ ap (λ (z : List ℕ). z ++ drop len out) (sym done) ∙ ap (λ (z : List ℕ). whole ++ z) v.rest

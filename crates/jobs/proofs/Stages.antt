@@ -78,8 +78,8 @@ module _ (sheet : Result (List Step) Refusal) (n : ℕ) (a : Result ℕ Refusal)
 
 -- the steps are read, and admission answered v
 module _ (sheet : Result (List Step) Refusal) (n : ℕ) (steps : List Step) (is : sheet ≡ Ok steps) (v : Result (Unit {0}) Refusal) (said : v ≡ admission n steps) where
-  answer-is : {Y : Type 0} (work : List Step → Result Y Refusal) → through_stages sheet n work ≡ and_then (staged Admission v) (λ _. staged Running (work steps))
-  answer-is work =
+  answer_is : {Y : Type 0} (work : List Step → Result Y Refusal) → through_stages sheet n work ≡ and_then (staged Admission v) (λ _. staged Running (work steps))
+  answer_is work =
       ap (λ (r : Result (List Step) Refusal). through_stages r n work) is
       ∙ ap (λ (w : Result (Unit {0}) Refusal). and_then (staged Admission w) (λ _. staged Running (work steps))) (sym said)
 
@@ -92,7 +92,7 @@ module _ (sheet : Result (List Step) Refusal) (n : ℕ) (steps : List Step) (is 
     stopped-answer {Y} work =
         let f = staged_err Admission v e stopped in
         let own : JobRefusal → Result Y JobRefusal = λ d. Err d in
-        ap own f.2 ∙ sym (answer-is work ∙ ap (λ (w : Result (Unit {0}) Refusal). and_then (staged Admission w) (λ _. staged Running (work steps))) f.1)
+        ap own f.2 ∙ sym (answer_is work ∙ ap (λ (w : Result (Unit {0}) Refusal). and_then (staged Admission w) (λ _. staged Running (work steps))) f.1)
 
     pub stopped-after : (P : Type 0) (Q : List Step → Type 0) → P → MatchOption (job_plan sheet n) P Q
     stopped-after P Q h =
@@ -103,7 +103,7 @@ module _ (sheet : Result (List Step) Refusal) (n : ℕ) (steps : List Step) (is 
     pub worked-answer : {Y : Type 0} (work : List Step → Result Y Refusal) (r : Result Y Refusal) (w : Result Y JobRefusal) → r ≡ work steps → w ≡ staged Running r → w ≡ through_stages sheet n work
     worked-answer work r w did told =
         told ∙ ap (staged Running) did
-        ∙ sym (answer-is work ∙ ap (λ (z : Result (Unit {0}) Refusal). and_then (staged Admission z) (λ _. staged Running (work steps))) (staged_ok Admission v u passed))
+        ∙ sym (answer_is work ∙ ap (λ (z : Result (Unit {0}) Refusal). and_then (staged Admission z) (λ _. staged Running (work steps))) (staged_ok Admission v u passed))
 
     pub worked-after : (P : Type 0) (Q : List Step → Type 0) → Q steps → MatchOption (job_plan sheet n) P Q
     worked-after P Q h =

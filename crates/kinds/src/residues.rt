@@ -5,7 +5,7 @@ ghost use Rattle.std.specs.Result.{result_map_both};
 ghost use Rattle.kinds.specs.Residues.{modulus_fault, residues};
 ghost use Rattle.std.proofs.Common.{arith, mod-lt};
 ghost use Rattle.std.proofs.lemmas.Bool.{lt-ltb};
-ghost use Rattle.kinds.specs.Remainders.{residue-assoc};
+ghost use Rattle.kinds.specs.Remainders.{residue_assoc};
 
 use crate::kind::Kind;
 use refusals::Refusal;
@@ -52,7 +52,7 @@ impl Kind for Residues {
 
     ghost closed = { λ k a b native-a native-b. lt-ltb (a * b % k.modulus) k.modulus (mod-lt (a * b) (omega (arith, k.least))) };
 
-    ghost assoc = { λ k a b c native-a native-b native-c. residue-assoc k.modulus a b c };
+    ghost assoc = { λ k a b c native-a native-b native-c. residue_assoc k.modulus a b c };
 
     fn is_native(&self, v: u32) -> bool {
         v < self.modulus

@@ -4,7 +4,7 @@ ghost use Rattle.kinds.specs.Counting.{counting};
 ghost use Rattle.units.specs.Units.{AllNative, Native, both};
 ghost use Rattle.pile_cases.specs.Ledgers.{entries, entry, ledgered, empty_ledger};
 ghost use Rattle.std.proofs.Common.{rules, arith};
-ghost use Rattle.pile_cases.specs.LedgersLemmas.{native-take};
+ghost use Rattle.pile_cases.specs.LedgersLemmas.{native_take};
 
 use kinds::{Count, Counts, Kind};
 use refusals::Refusal;
@@ -101,7 +101,7 @@ impl Unit for Ledger {
 
     ghost few = { first_of (Prim.search rules, Prim.grind (arith, Self.row.coded.inj)) };
 
-    ghost native = { λ u. native-take counting u.size u.places u.native };
+    ghost native = { λ u. native_take counting u.size u.places u.native };
 
     fn cells(&self) -> u8 {
         self.size

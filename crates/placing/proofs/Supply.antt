@@ -43,8 +43,8 @@ module _ (steps : List Step) (cells : List ℕ) (s : ℕ) where
       let w = count_some _ s (ltb-true _ _ e) in
       let a = and_parts (held steps s w.0) _ w.2 in (w.0, w.1, a.0, eqb-true _ _ a.1)
 
-  true-taken : (x : ℕ) → Taken steps cells s x → taken steps cells s x ≡ true
-  true-taken x t =
+  true_taken : (x : ℕ) → Taken steps cells s x → taken steps cells s x ≡ true
+  true_taken x t =
       let has : ℕ → Bool = λ i. held steps s i && eqb (get_or cells i 0) x in
       let e = and_from (held steps s t.0) (eqb (get_or cells t.0 0) x) t.2 (eq-eqb _ _ t.3) in
       lt-ltb _ _ (omega (arith, count_less has t.0 s t.1 e))
@@ -59,7 +59,7 @@ module _ (steps : List Step) (cells : List ℕ) (s : ℕ) where
   pub lowest-free : Taken steps cells s lowestFree → ⊥
   lowest-free t =
       elim (cases_lt lowestFree s) [
-        | inl h ↦ both_ways _ ((lowest_is (taken steps cells s) s).fails h) (true-taken _ t)
+        | inl h ↦ both_ways _ ((lowest_is (taken steps cells s) s).fails h) (true_taken _ t)
         | inr h ↦
             let all : (y : ℕ) → y < suc lowestFree → Taken steps cells s y =
             λ y l. elim (cases_eq y lowestFree) [ inl e ↦ subst (Taken steps cells s) (sym e) t | inr ne ↦ below-taken y (omega arith) ] in

@@ -35,10 +35,10 @@ xor_split n = xor_comm (n % 2) (n / 2 * 2) ∙ xor_shifted (n / 2) 1 (n % 2) (bi
 no_bit {ℓ} : {A : Type ℓ} {x : ℕ} → suc (suc x) < 2 → A
 no_bit h = absurd (not-suc-le-zero (le_of_suc-le-suc (le_of_suc-le-suc h)))
 
-pub bit_xor : (c a b : ℕ) → c < 2 → c * bit_xor a b ≡ bit_xor (c * a) (c * b)
-bit_xor zero a b h = simp zero-mul
-bit_xor (suc zero) a b h = simp one-mul
-bit_xor (suc (suc c)) a b h = no_bit h
+pub bit_xor_lem : (c a b : ℕ) → c < 2 → c * bit_xor a b ≡ bit_xor (c * a) (c * b)
+bit_xor_lem zero a b h = simp zero-mul
+bit_xor_lem (suc zero) a b h = simp one-mul
+bit_xor_lem (suc (suc c)) a b h = no_bit h
 
 -- ---- products
 
@@ -67,7 +67,7 @@ times_add_l a b =
     bin_ind (λ (n : ℕ). times (bit_xor a b) n ≡ bit_xor (times a n) (times b n))
     (times_zero (bit_xor a b) ∙ sym (ap₂ bit_xor (times_zero a) (times_zero b)))
     (λ n ih. times_step (bit_xor a b) n
-    ∙ ap₂ bit_xor (bit_xor (n % 2) a b (bit_lt n)) (ap (λ (x : ℕ). x * 2) ih ∙ sym (xor_dbl (times a (n / 2)) (times b (n / 2))))
+    ∙ ap₂ bit_xor (bit_xor_lem (n % 2) a b (bit_lt n)) (ap (λ (x : ℕ). x * 2) ih ∙ sym (xor_dbl (times a (n / 2)) (times b (n / 2))))
     ∙ xor4 (n % 2 * a) (n % 2 * b) (times a (n / 2) * 2) (times b (n / 2) * 2)
     ∙ sym (ap₂ bit_xor (times_step a n) (times_step b n)))
 

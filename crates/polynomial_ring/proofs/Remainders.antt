@@ -49,8 +49,8 @@ pub record Same (f x y : ℕ) : Type 0 where
 
 module _ (f n : ℕ) (lo : 2 ^ n ≤ f) (hi : f < 2 ^ suc n) where
   -- a multiple of f other than 0 has at least its degree
-  times-ge : (q : ℕ) → 0 < q → 2 ^ n ≤ times f q
-  times-ge =
+  times_ge : (q : ℕ) → 0 < q → 2 ^ n ≤ times f q
+  times_ge =
       bin_ind (λ (q : ℕ). 0 < q → 2 ^ n ≤ times f q) (λ p. absurd (omega arith)) (λ q ih p. go q ih p (eq-zero-or-pos (q / 2)))
     where
       go : (q : ℕ) → (0 < q / 2 → 2 ^ n ≤ times f (q / 2)) → 0 < q → (q / 2 ≡ 0) ⊎ (0 < q / 2) → 2 ^ n ≤ times f q
@@ -71,15 +71,15 @@ module _ (f n : ℕ) (lo : 2 ^ n ≤ f) (hi : f < 2 ^ suc n) where
   same_of : {x y : ℕ} → x ≡ y → Same f x y
   same_of {x} {y} e = record { by = 0; eq = e ∙ sym (ap (bit_xor y) (times_zero f) ∙ xor_zero_r y) }
 
-  same-sym : {x y : ℕ} → Same f x y → Same f y x
-  same-sym {x} {y} h = record {
+  same_sym : {x y : ℕ} → Same f x y → Same f y x
+  same_sym {x} {y} h = record {
     by = h.by;
     eq = sym (ap (λ (z : ℕ). bit_xor z (times f h.by)) h.eq ∙ xor_assoc y (times f h.by) (times f h.by)
         ∙ ap (bit_xor y) (xor_self (times f h.by)) ∙ xor_zero_r y);
   }
 
-  same-trans : {x y z : ℕ} → Same f x y → Same f y z → Same f x z
-  same-trans {x} {y} {z} h k = record {
+  same_trans : {x y z : ℕ} → Same f x y → Same f y z → Same f x z
+  same_trans {x} {y} {z} h k = record {
     by = bit_xor k.by h.by;
     eq = h.eq ∙ ap (λ (w : ℕ). bit_xor w (times f h.by)) k.eq ∙ xor_assoc z (times f k.by) (times f h.by)
         ∙ ap (bit_xor z) (sym (times_add_r f k.by h.by));
@@ -92,63 +92,63 @@ module _ (f n : ℕ) (lo : 2 ^ n ≤ f) (hi : f < 2 ^ suc n) where
         ∙ ap (bit_xor (bit_xor y v)) (sym (times_add_r f h.by k.by));
   }
 
-  same-times-l : {x y : ℕ} (z : ℕ) → Same f x y → Same f (times x z) (times y z)
-  same-times-l {x} {y} z h = record {
+  same_times_l : {x y : ℕ} (z : ℕ) → Same f x y → Same f (times x z) (times y z)
+  same_times_l {x} {y} z h = record {
     by = times h.by z;
     eq = ap (λ (w : ℕ). times w z) h.eq ∙ times_add_l y (times f h.by) z
         ∙ ap (bit_xor (times y z)) (times_assoc f h.by z);
   }
 
-  same-times-r : {x y : ℕ} (z : ℕ) → Same f x y → Same f (times z x) (times z y)
-  same-times-r {x} {y} z h = same-trans (same_of (times_comm z x)) (same-trans (same-times-l z h) (same_of (times_comm y z)))
+  same_times_r : {x y : ℕ} (z : ℕ) → Same f x y → Same f (times z x) (times z y)
+  same_times_r {x} {y} z h = same_trans (same_of (times_comm z x)) (same_trans (same_times_l z h) (same_of (times_comm y z)))
 
-  same-dbl : {x y : ℕ} → Same f x y → Same f (x * 2) (y * 2)
-  same-dbl {x} {y} h = record {
+  same_dbl : {x y : ℕ} → Same f x y → Same f (x * 2) (y * 2)
+  same_dbl {x} {y} h = record {
     by = h.by * 2;
     eq = ap (λ (w : ℕ). w * 2) h.eq ∙ sym (xor_dbl y (times f h.by)) ∙ ap (bit_xor (y * 2)) (sym (times_dbl_r f h.by));
   }
 
   -- no two numbers below 2 ^ n differ by a multiple of f
-  same-below : (x y : ℕ) → x < 2 ^ n → y < 2 ^ n → Same f x y → x ≡ y
-  same-below x y hx hy h = go (eq-zero-or-pos h.by)
+  same_below : (x y : ℕ) → x < 2 ^ n → y < 2 ^ n → Same f x y → x ≡ y
+  same_below x y hx hy h = go (eq-zero-or-pos h.by)
     where
       go : (h.by ≡ 0) ⊎ (0 < h.by) → x ≡ y
       go (inl e) = h.eq ∙ ap (λ (q : ℕ). bit_xor y (times f q)) e ∙ ap (bit_xor y) (times_zero f) ∙ xor_zero_r y
       go (inr p) =
           let e : bit_xor y x ≡ times f h.by = ap (bit_xor y) h.eq ∙ xor_cancel y (times f h.by) in
-          absurd (omega (arith, times-ge h.by p, xor_lt n y x hy hx, e))
+          absurd (omega (arith, times_ge h.by p, xor_lt n y x hy hx, e))
 
-  reduce-lt : (y : ℕ) → y < 2 ^ suc n → reduce n f y < 2 ^ n
-  reduce-lt y h = go (cases_lt y (2 ^ n))
+  reduce_lt : (y : ℕ) → y < 2 ^ suc n → reduce n f y < 2 ^ n
+  reduce_lt y h = go (cases_lt y (2 ^ n))
     where
       go : (y < 2 ^ n) ⊎ (2 ^ n ≤ y) → reduce n f y < 2 ^ n
       go (inl k) = subst (λ (z : ℕ). z < 2 ^ n) (sym (reduce_small n f y k)) k
       go (inr k) = subst (λ (z : ℕ). z < 2 ^ n) (sym (reduce_large n f y k)) (xor_top n y f k h lo hi)
 
-  reduce-same : (y : ℕ) → Same f (reduce n f y) y
-  reduce-same y = go (cases_lt y (2 ^ n))
+  reduce_same : (y : ℕ) → Same f (reduce n f y) y
+  reduce_same y = go (cases_lt y (2 ^ n))
     where
       go : (y < 2 ^ n) ⊎ (2 ^ n ≤ y) → Same f (reduce n f y) y
       go (inl k) = same_of (reduce_small n f y k)
       go (inr k) = record { by = 1; eq = reduce_large n f y k ∙ ap (bit_xor y) (sym (times_one f)) }
 
-  grown-lt : (c r : ℕ) → c < 2 → r < 2 ^ n → bit_xor c (r * 2) < 2 ^ suc n
-  grown-lt c r hc hr =
+  grown_lt : (c r : ℕ) → c < 2 → r < 2 ^ n → bit_xor c (r * 2) < 2 ^ suc n
+  grown_lt c r hc hr =
       let p = pow_pos n in
       let k : c < 2 ^ suc n = omega arith in
       let l : r * 2 < 2 ^ suc n = omega arith in
       xor_lt (suc n) c (r * 2) k l
 
-  remIn-is : (d x : ℕ) → x ≤ d → (rem_in d n f x < 2 ^ n) × Same f (rem_in d n f x) x
+  rem_in_is : (d x : ℕ) → x ≤ d → (rem_in d n f x < 2 ^ n) × Same f (rem_in d n f x) x
   unfolding rem_in
-  remIn-is zero zero h = (pow_pos n, same_refl 0)
-  remIn-is zero (suc x) h = absurd (not-suc-le-zero h)
-  remIn-is (suc d) zero h = (pow_pos n, same_refl 0)
-  remIn-is (suc d) (suc x) h =
-      let ih = remIn-is d (suc x / 2) (half_le h) in
+  rem_in_is zero zero h = (pow_pos n, same_refl 0)
+  rem_in_is zero (suc x) h = absurd (not-suc-le-zero h)
+  rem_in_is (suc d) zero h = (pow_pos n, same_refl 0)
+  rem_in_is (suc d) (suc x) h =
+      let ih = rem_in_is d (suc x / 2) (half_le h) in
       let y : ℕ = bit_xor (suc x % 2) (rem_in d n f (suc x / 2) * 2) in (
-        reduce-lt y (grown-lt (suc x % 2) (rem_in d n f (suc x / 2)) (bit_lt (suc x)) ih.0),
-        same-trans (reduce-same y) (same-trans (same_add (same_refl (suc x % 2)) (same-dbl ih.1)) (same_of (xor_split (suc x)))),
+        reduce_lt y (grown_lt (suc x % 2) (rem_in d n f (suc x / 2)) (bit_lt (suc x)) ih.0),
+        same_trans (reduce_same y) (same_trans (same_add (same_refl (suc x % 2)) (same_dbl ih.1)) (same_of (xor_split (suc x)))),
       )
 
 -- ---- remainders modulo f, of at least 1
@@ -162,21 +162,21 @@ module _ (f : ℕ) (pos : 0 < f) where
 
   pub rem_lt : (x : ℕ) → rem f x < 2 ^ top f
   unfolding rem
-  rem_lt x = (remIn-is f (top f) low high x x (le_refl x)).0
+  rem_lt x = (rem_in_is f (top f) low high x x (le_refl x)).0
 
   pub rem-same : (x : ℕ) → Same f (rem f x) x
   unfolding rem
-  rem-same x = (remIn-is f (top f) low high x x (le_refl x)).1
+  rem-same x = (rem_in_is f (top f) low high x x (le_refl x)).1
 
   trans : {x y z : ℕ} → Same f x y → Same f y z → Same f x z
-  trans = same-trans f (top f) low high
+  trans = same_trans f (top f) low high
 
   flip : {x y : ℕ} → Same f x y → Same f y x
-  flip = same-sym f (top f) low high
+  flip = same_sym f (top f) low high
 
   -- the only number below 2 ^ top f that differs from x by a multiple of f
   pub rem_is : (x r : ℕ) → r < 2 ^ top f → Same f r x → rem f x ≡ r
-  rem_is x r h k = same-below f (top f) low high (rem f x) r (rem_lt x) h (trans (rem-same x) (flip k))
+  rem_is x r h k = same_below f (top f) low high (rem f x) r (rem_lt x) h (trans (rem-same x) (flip k))
 
   pub rem-remainder : (x : ℕ) → Remainder f x (rem f x)
   rem-remainder x =
@@ -203,8 +203,8 @@ module _ (f : ℕ) (pos : 0 < f) where
   rem-dbl x =
       let h = rem_lt x in
       let k : rem f x * 2 < 2 ^ suc (top f) = omega arith in
-      rem_is (x * 2) (reduce (top f) f (rem f x * 2)) (reduce-lt f (top f) low high (rem f x * 2) k)
-      (trans (reduce-same f (top f) low high (rem f x * 2)) (same-dbl f (top f) low high (rem-same x)))
+      rem_is (x * 2) (reduce (top f) f (rem f x * 2)) (reduce_lt f (top f) low high (rem f x * 2) k)
+      (trans (reduce_same f (top f) low high (rem f x * 2)) (same_dbl f (top f) low high (rem-same x)))
 
   -- ---- the two laws
 
@@ -215,9 +215,9 @@ module _ (f : ℕ) (pos : 0 < f) where
   pub product-assoc : (a b c : ℕ) → product f (product f a b) c ≡ product f a (product f b c)
   unfolding product
   product-assoc a b c =
-      rem_of (times (rem f (times a b)) c) (times (times a b) c) (same-times-l f (top f) low high c (rem-same (times a b)))
+      rem_of (times (rem f (times a b)) c) (times (times a b) c) (same_times_l f (top f) low high c (rem-same (times a b)))
       ∙ ap (rem f) (times_assoc a b c)
-      ∙ sym (rem_of (times a (rem f (times b c))) (times a (times b c)) (same-times-r f (top f) low high a (rem-same (times b c))))
+      ∙ sym (rem_of (times a (rem f (times b c))) (times a (times b c)) (same_times_r f (top f) low high a (rem-same (times b c))))
 
 -- ---- the laws, as they are stated
 

@@ -9,7 +9,7 @@ ghost use Rattle.polynomial_ring.specs.Laws.{Multiplies, Reduces};
 ghost use Rattle.polynomials.specs.Tables.{Folds};
 ghost use Rattle.polynomials.specs.Polynomials.{modulus_fault, polynomials};
 ghost use Rattle.std.proofs.lemmas.Bool.{lt-ltb};
-ghost use Rattle.polynomial_ring.proofs.Remainders.{product-native, product-assoc};
+ghost use Rattle.polynomial_ring.proofs.Remainders.{product_native, product_assoc};
 ghost use Rattle.polynomials.specs.declared.word.Word.{Word};
 
 use crate::products::times;
@@ -90,11 +90,11 @@ impl Kind for Register {
 
     ghost closed = { λ k a b native-a native-b.
         lt-ltb (product k.modulus a.bits b.bits) (2 ^ top k.modulus)
-        (product-native k.modulus (omega (arith, k.least)) a.bits b.bits) };
+        (product_native k.modulus (omega (arith, k.least)) a.bits b.bits) };
 
     ghost assoc = { λ k a b c native-a native-b native-c.
         let word : ℕ → Word = λ x. record { bits = x } in
-        ap word (product-assoc k.modulus (omega (arith, k.least)) a.bits b.bits c.bits) };
+        ap word (product_assoc k.modulus (omega (arith, k.least)) a.bits b.bits c.bits) };
 
     fn is_native(&self, v: Word) -> bool {
         let limit = 1u64 << self.degree;

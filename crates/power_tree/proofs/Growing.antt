@@ -73,14 +73,14 @@ child_on k todo g t p c l s new one a b z =
             ∙ ap (λ (x : List ℕ). x ++ c ∷ []) l.ahead
             ∙ append_assoc (firsts todo) (firsts (turned t.paths [])) (c ∷ [])
             ∙ ap (λ (x : List ℕ). firsts todo ++ x) (sym (firsts_onto t.paths ((c ∷ p) ∷ [])));
-        made = (record { good = new; climbs = child-climbs p c (set ps c (first_of p)) here (keeps p s) }, each_map (Stands ps) (Stands (set ps c (first_of p))) keeps t.paths l.made);
+        made = (record { good = new; climbs = child_climbs p c (set ps c (first_of p)) here (keeps p s) }, each_map (Stands ps) (Stands (set ps c (first_of p))) keeps t.paths l.made);
       };
       keeps = keeps;
     }
   where
-    child-climbs : (p : List ℕ) (c : ℕ) (ps : List ℕ) → get_or ps c 0 ≡ first_of p → Stands ps p → Climbs ps (c ∷ p)
-    child-climbs [] c ps e s = absurd s.good
-    child-climbs (u ∷ rest) c ps e s = (e, s.climbs)
+    child_climbs : (p : List ℕ) (c : ℕ) (ps : List ℕ) → get_or ps c 0 ≡ first_of p → Stands ps p → Climbs ps (c ∷ p)
+    child_climbs [] c ps e s = absurd s.good
+    child_climbs (u ∷ rest) c ps e s = (e, s.climbs)
 
 hang_on : (k : ℕ) (todo : List (List ℕ)) (g : Growth) (t : Level) (p : List ℕ) (a : ℕ) → Like k todo g t → Stands g.parents p → Among a p
     → On k todo g (hang (first_of p) g a) (hung (first_of p) p t a)

@@ -50,10 +50,10 @@ module _ {V : Type 0} (m : Meaning V) (s : State V) (n : ℕ) (steps : List Step
       omega arith))
   must (inr (inr e)) = inr (inr (leb-false (length steps) s.left e))
 
-  must-not : Passed m s steps x → Cause (length s.cells) s.left (asked m n steps x) → ⊥
-  must-not p (inl e) = nothing_is_something x (sym e ∙ rw p.native refl)
-  must-not p (inr (inl none)) = let here = (fits_exactly steps (length s.cells)).1 p.fits in none here.0 here.1
-  must-not p (inr (inr h)) = let l = p.enough in omega arith
+  must_not : Passed m s steps x → Cause (length s.cells) s.left (asked m n steps x) → ⊥
+  must_not p (inl e) = nothing_is_something x (sym e ∙ rw p.native refl)
+  must_not p (inr (inl none)) = let here = (fits_exactly steps (length s.cells)).1 p.fits in none here.0 here.1
+  must_not p (inr (inr h)) = let l = p.enough in omega arith
 
   pub accepted-effect : (v : V) (t : State V) → run_fault m s steps x ≡ None → Success m s n steps x v t
       → Effect m s (record { run = Some (asked m n steps x); given = Some (v ∷ []) }) t
@@ -69,7 +69,7 @@ module _ {V : Type 0} (m : Meaning V) (s : State V) (n : ℕ) (steps : List Step
         refused = λ r run.
             let is : asked m n steps x ≡ r = cc in (
               (λ e. nothing_is_something (v ∷ []) (sym e)),
-              (λ h. absurd (must-not p (subst (λ (z : Asked V). Cause (length s.cells) s.left z) (sym is) h))),
+              (λ h. absurd (must_not p (subst (λ (z : Asked V). Cause (length s.cells) s.left z) (sym is) h))),
             );
         silent = λ none. nothing_is_something (asked m n steps x) (sym none);
         shape = (

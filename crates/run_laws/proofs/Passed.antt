@@ -45,16 +45,16 @@ module _ {V : Type 0} (m : Meaning V) (s : State V) (steps : List Step) (x : V) 
         subst (Placing (length s.cells) steps) (sym named)
         (placing_within (need steps) (length s.cells) steps (supplied_cells steps) (passed fine).fits (supplied_cells_lem steps).placing)
 
-    load-fine : load_fault m s (cell_of places 0) x ≡ None
-    load-fine = simp (lt-ltb (cell_of places 0) (length s.cells) (within.below 0 (omega arith)), (passed fine).native) refl
+    load_fine : load_fault m s (cell_of places 0) x ≡ None
+    load_fine = simp (lt-ltb (cell_of places 0) (length s.cells) (within.below 0 (omega arith)), (passed fine).native) refl
 
     -- the load is not refused
     pub load-passes : (e : Refusal) → Err e ≡ verdict (load_fault m s (cell_of places 0) x) → ⊥
-    load-passes e q = not_refused _ e load-fine q
+    load-passes e q = not_refused _ e load_fine q
 
     -- the state after it
     pub load_is : (b : State V) → b ≡ settle (load_fault m s (cell_of places 0) x) s (loaded s (cell_of places 0) x) → b ≡ loaded s (cell_of places 0) x
-    load_is b h = h ∙ ap (λ (f : Option Refusal). settle f s (loaded s (cell_of places 0) x)) load-fine
+    load_is b h = h ∙ ap (λ (f : Option Refusal). settle f s (loaded s (cell_of places 0) x)) load_fine
 
     pub ready : Ready m (loaded s (cell_of places 0) x) n steps places x
     ready = let p = passed fine in record {

@@ -67,11 +67,11 @@ module _ {V : Type 0} (m : Meaning V) (s : State V) (n : ℕ) (steps : List Step
       within : (v : ℕ) → v ≤ length steps → cell_of places v < length t.cells
       within v h = let a = r.placing.below v h in let b = sits.cells in omega arith
 
-      below-j : st.j ≤ i
-      below-j = (r.chain.cites i more).1
+      below_j : st.j ≤ i
+      below_j = (r.chain.cites i more).1
 
-      below-k : st.k ≤ i
-      below-k = let a = below-j in let b = (r.chain.cites i more).0 in omega arith
+      below_k : st.k ≤ i
+      below_k = let a = below_j in let b = (r.chain.cites i more).0 in omega arith
 
       lies : (v : ℕ) → v ≤ i → cites st v ≡ true → get_or t.cells (cell_of places v) None ≡ powered v
       lies v h e =
@@ -79,10 +79,10 @@ module _ {V : Type 0} (m : Meaning V) (s : State V) (n : ℕ) (steps : List Step
           stored_read powered steps places i t.cells sits.stored more v None h (ap (λ (u : ℕ). cites (get_or steps u no_step) v) same ∙ e)
 
       at_j : get_or t.cells (cell_of places st.j) None ≡ powered st.j
-      at_j = lies st.j below-j (cites_first st)
+      at_j = lies st.j below_j (cites_first st)
 
-      at-k : get_or t.cells (cell_of places st.k) None ≡ powered st.k
-      at-k = lies st.k below-k (cites_second st)
+      at_k : get_or t.cells (cell_of places st.k) None ≡ powered st.k
+      at_k = lies st.k below_k (cites_second st)
 
       has_left : 0 < t.left
       has_left = let a = sits.left in let b = r.enough in omega arith
@@ -90,23 +90,23 @@ module _ {V : Type 0} (m : Meaning V) (s : State V) (n : ℕ) (steps : List Step
       pub next-fine : multiply_fault t (cell_of places (i + 1)) (cell_of places st.j) (cell_of places st.k) ≡ None
       next-fine =
           multiply_fine t (cell_of places (i + 1)) (cell_of places st.j) (cell_of places st.k) _ _
-          (within (i + 1) (omega arith)) (within st.j (let a = below-j in omega arith)) (within st.k (let a = below-k in omega arith)) at_j at-k has_left
+          (within (i + 1) (omega arith)) (within st.j (let a = below_j in omega arith)) (within st.k (let a = below_k in omega arith)) at_j at_k has_left
 
       -- what is put is the next power
-      made-is : both m.times (get_or t.cells (cell_of places st.j) None) (get_or t.cells (cell_of places st.k) None) ≡ powered (i + 1)
-      made-is =
+      made_is : both m.times (get_or t.cells (cell_of places st.j) None) (get_or t.cells (cell_of places st.k) None) ≡ powered (i + 1)
+      made_is =
           let sum : value_at steps (i + 1) ≡ value_at steps st.j + value_at steps st.k =
           ap (value_at steps) (add-one i) ∙ value_suc steps i ∙ r.chain.sums i more in
           let p = power-add m laws x r.native (value_at steps st.j) (value_at steps st.k)
-          (value_positive n steps r.chain st.j (let a = below-j in omega arith))
-          (value_positive n steps r.chain st.k (let a = below-k in omega arith)) in
-          rw (at_j, at-k) (ap Some (sym p ∙ ap (power m x) (sym sum)))
+          (value_positive n steps r.chain st.j (let a = below_j in omega arith))
+          (value_positive n steps r.chain st.k (let a = below_k in omega arith)) in
+          rw (at_j, at_k) (ap Some (sym p ∙ ap (power m x) (sym sum)))
 
       pub sits-next : Sits (i + 1) (stepped m t places (i + 1) st)
       sits-next = record {
         cells = length-set t.cells (cell_of places (i + 1)) _ ∙ sits.cells;
         left = let a = sits.left in let b = has_left in omega arith;
-        stored = subst (λ (z : Option V). Stored powered steps places (i + 1) (set t.cells (cell_of places (i + 1)) z)) (sym made-is)
+        stored = subst (λ (z : Option V). Stored powered steps places (i + 1) (set t.cells (cell_of places (i + 1)) z)) (sym made_is)
             (stored_more powered (length s.cells) steps places i t.cells r.placing (let a = sits.cells in omega arith) more sits.stored);
       }
 

@@ -22,18 +22,18 @@ module _ {V : Type 0} (m : Meaning V) (s : State V) (n : ℕ) (steps : List Step
   sits : i ≤ length steps → Sits m s n steps places x i t
   sits h = subst (λ (z : State V). Sits m s n steps places x i z) (sym so_far) (sits-at m s n steps places x laws r i h)
 
-  turn-fine : i < length steps → multiply_fault t (cell_of places (i + 1)) (cell_of places (step_at steps i).j) (cell_of places (step_at steps i).k) ≡ None
-  turn-fine h = next-fine m s n steps places x laws r i t h (sits (omega arith))
+  turn_fine : i < length steps → multiply_fault t (cell_of places (i + 1)) (cell_of places (step_at steps i).j) (cell_of places (step_at steps i).k) ≡ None
+  turn_fine h = next-fine m s n steps places x laws r i t h (sits (omega arith))
 
   pub turn_passes : (e : Refusal) → i < length steps
       → Err e ≡ verdict (multiply_fault t (cell_of places (i + 1)) (cell_of places (step_at steps i).j) (cell_of places (step_at steps i).k)) → ⊥
-  turn_passes e h q = not_refused _ e (turn-fine h) q
+  turn_passes e h q = not_refused _ e (turn_fine h) q
 
   pub turn-next : (u : State V) → i < length steps
       → u ≡ settle (multiply_fault t (cell_of places (i + 1)) (cell_of places (step_at steps i).j) (cell_of places (step_at steps i).k)) t (stepped j t places (i + 1) (step_at steps i))
       → u ≡ after_steps m s places steps (i + 1)
   turn-next u h q =
-      q ∙ ap (λ (f : Option Refusal). settle f t (stepped j t places (i + 1) (step_at steps i))) (turn-fine h)
+      q ∙ ap (λ (f : Option Refusal). settle f t (stepped j t places (i + 1) (step_at steps i))) (turn_fine h)
       ∙ ap (λ (z : Meaning V). stepped z t places (i + 1) (step_at steps i)) alike
       ∙ ap (λ (z : State V). stepped m z places (i + 1) (step_at steps i)) so_far
       ∙ ap (λ (z : ℕ). stepped m (after_steps m s places steps i) places z (step_at steps i)) (add-one i)

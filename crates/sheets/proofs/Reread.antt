@@ -43,29 +43,29 @@ module _ (f1 f2 f3 f4 : List ℕ) (l1 : length f1 ≡ 4) (l2 : length f2 ≡ 4) 
   abbrev four : List ℕ
   four = f1 ++ (f2 ++ (f3 ++ (f4 ++ (10 ∷ []))))
 
-  four-1 : take 4 four ≡ f1
-  four-1 = take_at f1 (f2 ++ (f3 ++ (f4 ++ (10 ∷ [])))) 4 l1
+  four_1 : take 4 four ≡ f1
+  four_1 = take_at f1 (f2 ++ (f3 ++ (f4 ++ (10 ∷ [])))) 4 l1
 
-  drop-1 : drop 4 four ≡ f2 ++ (f3 ++ (f4 ++ (10 ∷ [])))
-  drop-1 = drop_at f1 (f2 ++ (f3 ++ (f4 ++ (10 ∷ [])))) 4 l1
+  drop_1 : drop 4 four ≡ f2 ++ (f3 ++ (f4 ++ (10 ∷ [])))
+  drop_1 = drop_at f1 (f2 ++ (f3 ++ (f4 ++ (10 ∷ [])))) 4 l1
 
-  four-2 : take 4 (drop 4 four) ≡ f2
-  four-2 = ap (take 4) drop-1 ∙ take_at f2 (f3 ++ (f4 ++ (10 ∷ []))) 4 l2
+  four_2 : take 4 (drop 4 four) ≡ f2
+  four_2 = ap (take 4) drop_1 ∙ take_at f2 (f3 ++ (f4 ++ (10 ∷ []))) 4 l2
 
-  drop-2 : drop 8 four ≡ f3 ++ (f4 ++ (10 ∷ []))
-  drop-2 = sym (drop-drop 4 4 four) ∙ ap (drop 4) drop-1 ∙ drop_at f2 (f3 ++ (f4 ++ (10 ∷ []))) 4 l2
+  drop_2 : drop 8 four ≡ f3 ++ (f4 ++ (10 ∷ []))
+  drop_2 = sym (drop-drop 4 4 four) ∙ ap (drop 4) drop_1 ∙ drop_at f2 (f3 ++ (f4 ++ (10 ∷ []))) 4 l2
 
-  four-3 : take 4 (drop 8 four) ≡ f3
-  four-3 = ap (take 4) drop-2 ∙ take_at f3 (f4 ++ (10 ∷ [])) 4 l3
+  four_3 : take 4 (drop 8 four) ≡ f3
+  four_3 = ap (take 4) drop_2 ∙ take_at f3 (f4 ++ (10 ∷ [])) 4 l3
 
-  drop-3 : drop 12 four ≡ f4 ++ (10 ∷ [])
-  drop-3 = sym (drop-drop 4 8 four) ∙ ap (drop 4) drop-2 ∙ drop_at f3 (f4 ++ (10 ∷ [])) 4 l3
+  drop_3 : drop 12 four ≡ f4 ++ (10 ∷ [])
+  drop_3 = sym (drop-drop 4 8 four) ∙ ap (drop 4) drop_2 ∙ drop_at f3 (f4 ++ (10 ∷ [])) 4 l3
 
-  four-4 : take 19 (drop 12 four) ≡ f4
-  four-4 = ap (take 19) drop-3 ∙ take_at f4 (10 ∷ []) 19 l4
+  four_4 : take 19 (drop 12 four) ≡ f4
+  four_4 = ap (take 19) drop_3 ∙ take_at f4 (10 ∷ []) 19 l4
 
-  four-end : get_or four 31 0 ≡ 10
-  four-end = sym (get_or-drop 12 four 19 0) ∙ ap (λ xs. get_or xs 19 0) drop-3 ∙ get_or_at f4 10 [] 0 19 l4
+  four_end : get_or four 31 0 ≡ 10
+  four_end = sym (get_or-drop 12 four 19 0) ∙ ap (λ xs. get_or xs 19 0) drop_3 ∙ get_or_at f4 10 [] 0 19 l4
 
 pub line_reads : (i : ℕ) (s : Step) → i < 10 ^ 4 → Writable s → read_line i (line i s) ≡ Ok s
 line_reads i s hi hs =
@@ -74,12 +74,12 @@ line_reads i s hi hs =
     let c = length_field 4 s.k (narrow_digits s.k hs.1) in
     let d = length_field 19 s.value (value_digits s.value hs.2) in
     line_ok (line i s) i i s.j s.k s.value
-    (four-end _ _ _ _ a b c d)
+    (four_end _ _ _ _ a b c d)
     (record {
-      number = narrow_held i (cell Number (line i s)) (four-1 _ _ _ _ a b c d) hi;
-      first = narrow_held s.j (cell First (line i s)) (four-2 _ _ _ _ a b c d) hs.0;
-      second = narrow_held s.k (cell Second (line i s)) (four-3 _ _ _ _ a b c d) hs.1;
-      value = value_held s.value (cell Value (line i s)) (four-4 _ _ _ _ a b c d) hs.2;
+      number = narrow_held i (cell Number (line i s)) (four_1 _ _ _ _ a b c d) hi;
+      first = narrow_held s.j (cell First (line i s)) (four_2 _ _ _ _ a b c d) hs.0;
+      second = narrow_held s.k (cell Second (line i s)) (four_3 _ _ _ _ a b c d) hs.1;
+      value = value_held s.value (cell Value (line i s)) (four_4 _ _ _ _ a b c d) hs.2;
     })
     refl
 

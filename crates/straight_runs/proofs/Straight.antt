@@ -58,28 +58,28 @@ module _ {V : Type 0} (m : Meaning V) (laws : Laws m) (x : V) (base : m.native x
   power_at i d h = get_or-map (power m x) (values s) i 0 d (omega (arith, values_length s))
 
   -- what step i + 1 reads is a power
-  read-power : (was now : List V) (i j : ℕ) (v : V) → i < length s → j ≤ i → Holds (powers_of m s x) was now (i + 1) → v ≡ get_or now j v → v ≡ power m x (value_at s j)
-  read-power was now i j v h k f e = e ∙ holds_at (powers_of m s x) was now (i + 1) j v (omega arith) f ∙ power_at j v (omega arith)
+  read_power : (was now : List V) (i j : ℕ) (v : V) → i < length s → j ≤ i → Holds (powers_of m s x) was now (i + 1) → v ≡ get_or now j v → v ≡ power m x (value_at s j)
+  read_power was now i j v h k f e = e ∙ holds_at (powers_of m s x) was now (i + 1) j v (omega arith) f ∙ power_at j v (omega arith)
 
   -- its two factors are native, so that their product is there
   pub turn-some : (was now : List V) (i : ℕ) (a b : V) → i < length s → Holds (powers_of m s x) was now (i + 1)
       → a ≡ get_or now (step_at s i).j a → b ≡ get_or now (step_at s i).k b → product_of m a b ≡ Some (m.times a b)
   turn-some was now i a b h f ea eb =
       let c = chain.cites i h in
-      let pa = read-power was now i (step_at s i).j a h c.1 f ea in
-      let pb = read-power was now i (step_at s i).k b h (omega arith) f eb in
+      let pa = read_power was now i (step_at s i).j a h c.1 f ea in
+      let pb = read_power was now i (step_at s i).k b h (omega arith) f eb in
       let na : m.native a ≡ true = ap m.native pa ∙ power-native m laws x base (value_at s (step_at s i).j) in
       let nb : m.native b ≡ true = ap m.native pb ∙ power-native m laws x base (value_at s (step_at s i).k) in
       rw (na, nb) refl
 
   -- and it is the next power
-  turn-power : (was now : List V) (i : ℕ) (a b v : V) → i < length s → Holds (powers_of m s x) was now (i + 1)
+  turn_power : (was now : List V) (i : ℕ) (a b v : V) → i < length s → Holds (powers_of m s x) was now (i + 1)
       → a ≡ get_or now (step_at s i).j a → b ≡ get_or now (step_at s i).k b → m.times a b ≡ get_or (powers_of m s x) (i + 1) v
-  turn-power was now i a b v h f ea eb =
+  turn_power was now i a b v h f ea eb =
       let j : ℕ = (step_at s i).j in
       let k : ℕ = (step_at s i).k in
       let c = chain.cites i h in
-      ap₂ m.times (read-power was now i j a h c.1 f ea) (read-power was now i k b h (omega arith) f eb)
+      ap₂ m.times (read_power was now i j a h c.1 f ea) (read_power was now i k b h (omega arith) f eb)
       ∙ sym (power-add m laws x base (value_at s j) (value_at s k) (value_positive n s chain j (omega arith)) (value_positive n s chain k (omega arith)))
       ∙ ap (power m x) (sym (chain.sums i h) ∙ sym (value_next s i))
       ∙ sym (power_at (i + 1) v (omega arith))
@@ -90,7 +90,7 @@ module _ {V : Type 0} (m : Meaning V) (laws : Laws m) (x : V) (base : m.native x
   turn-next was now i a b v h l f ea eb e =
       let t = turn-some was now i a b h f ea eb in
       let p : v ≡ m.times a b = cc in
-      holds_more (powers_of m s x) was now (i + 1) v l (omega (arith, powers_length m s x)) (p ∙ turn-power was now i a b v h f ea eb) f
+      holds_more (powers_of m s x) was now (i + 1) v l (omega (arith, powers_length m s x)) (p ∙ turn_power was now i a b v h f ea eb) f
 
   -- after the last step
   pub run-done : (was now : List V) (i : ℕ) → i ≡ length s → Holds (powers_of m s x) (set was 0 x) now (i + 1) → now ≡ straightened m s x was

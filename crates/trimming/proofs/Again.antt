@@ -49,30 +49,30 @@ module _ (n : ℕ) (s : List Step) (chain : Chain n s) where
   trimmed-chain = keep-chain n kept s chain closed (needed_last s)
 
   -- a needed step that cites m is before no value that it cites, and cites its new number
-  cites-again : (a m : ℕ) → a < length s → Cited (step_at s a) m → (m ≤ a) × Cited (renumbered kept (step_at s a)) (rank kept m)
-  cites-again a m h e =
+  cites_again : (a m : ℕ) → a < length s → Cited (step_at s a) m → (m ≤ a) × Cited (renumbered kept (step_at s a)) (rank kept m)
+  cites_again a m h e =
       let q = chain.cites a h in
       ⊎_elim
       (λ (w : m ≡ (step_at s a).j). (omega arith, inl (ap (rank kept) w)))
       (λ (w : m ≡ (step_at s a).k). (omega arith, inr (ap (rank kept) w)))
       e
 
-  last-again : (m : ℕ) → m ≡ length s → needed (trimmed s) (rank kept m) ≡ true
-  last-again m q = ap (needed (trimmed s)) (ap (rank kept) q ∙ sym (keep-length kept s)) ∙ needed_last (trimmed s)
+  last_again : (m : ℕ) → m ≡ length s → needed (trimmed s) (rank kept m) ≡ true
+  last_again m q = ap (needed (trimmed s)) (ap (rank kept) q ∙ sym (keep-length kept s)) ∙ needed_last (trimmed s)
 
   -- a value that is needed is needed under its new number
-  again-needed : (f m : ℕ) → length s ≤ m + f → m ≤ length s → needed s m ≡ true → needed (trimmed s) (rank kept m) ≡ true
-  again-needed zero m b h e = last-again m (omega arith)
-  again-needed (suc f) m b h e =
+  again_needed : (f m : ℕ) → length s ≤ m + f → m ≤ length s → needed s m ≡ true → needed (trimmed s) (rank kept m) ≡ true
+  again_needed zero m b h e = last_again m (omega arith)
+  again_needed (suc f) m b h e =
       ⊎_elim
-      (λ (q : has (length s ∷ []) m ≡ true). last-again m (has_one (length s) m q))
+      (λ (q : has (length s ∷ []) m ≡ true). last_again m (has_one (length s) m q))
       (λ (q : Citing (length s ∷ []) s m).
       let a : ℕ = q.0 in
       let al : a < length s = q.1 in
       let t : needed s (a + 1) ≡ true = q.2 in
-      let c = cites-again a m al q.3 in
+      let c = cites_again a m al q.3 in
       let le : m ≤ a = c.0 in
-      let w : needed (trimmed s) (rank kept a + 1) ≡ true = sym (ap (needed (trimmed s)) (rank-one kept a t)) ∙ again-needed f (a + 1) (omega arith) (omega arith) t in
+      let w : needed (trimmed s) (rank kept a + 1) ≡ true = sym (ap (needed (trimmed s)) (rank-one kept a t)) ∙ again_needed f (a + 1) (omega arith) (omega arith) t in
       let k : rank kept a < length (trimmed s) = omega (arith, rank_room kept s a al t, keep-length kept s) in
       let x = (held n kept s chain closed).steps a al t in
       cited-needed (length (trimmed s) ∷ []) (trimmed s) (rank kept a) (rank kept m) trimmed-chain.cites k w (subst (λ (y : Step). Cited y (rank kept m)) (sym x) c.1))
@@ -93,10 +93,10 @@ module _ (n : ℕ) (s : List Step) (chain : Chain n s) where
       (λ (k : c ≤ rank kept i). let r = onto i c l k in (r.0, omega (arith, r.1), r.2, r.3))
       (cases_lt (rank kept i) c)
 
-  all-needed : (c : ℕ) → 1 ≤ c → c ≤ length (trimmed s) → needed (trimmed s) c ≡ true
-  all-needed c l h =
+  all_needed : (c : ℕ) → 1 ≤ c → c ≤ length (trimmed s) → needed (trimmed s) c ≡ true
+  all_needed c l h =
       let r = onto (length s) c l (omega (arith, keep-length kept s)) in
-      sym (ap (needed (trimmed s)) r.3) ∙ again-needed (length s) r.0 (omega arith) r.1 r.2
+      sym (ap (needed (trimmed s)) r.3) ∙ again_needed (length s) r.0 (omega arith) r.1 r.2
 
   pub trimmed-again : trimmed (trimmed s) ≡ trimmed s
-  trimmed-again = keep_same n (needed_of (trimmed s)) (trimmed s) trimmed-chain all-needed
+  trimmed-again = keep_same n (needed_of (trimmed s)) (trimmed s) trimmed-chain all_needed

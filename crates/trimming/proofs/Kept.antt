@@ -26,8 +26,8 @@ pub record Held (n : ℕ) (kept : List ℕ) (s : List Step) (i : ℕ) (p : List 
   pub last : last_value p ≤ value_at s i
 
 module _ (n : ℕ) (kept : List ℕ) (s : List Step) (chain : Chain n s) (closed : Closed kept s) where
-  held-yes : (i : ℕ) (p : List Step) → i < length s → has kept (i + 1) ≡ true → Held n kept s i p → Held n kept s (i + 1) (p ++ renumbered kept (step_at s i) ∷ [])
-  held-yes i p h e f =
+  held_yes : (i : ℕ) (p : List Step) → i < length s → has kept (i + 1) ≡ true → Held n kept s i p → Held n kept s (i + 1) (p ++ renumbered kept (step_at s i) ∷ [])
+  held_yes i p h e f =
       let x : Step = renumbered kept (step_at s i) in
       let c = chain.cites i h in
       let r = chain.rises i h in
@@ -67,8 +67,8 @@ module _ (n : ℕ) (kept : List ℕ) (s : List Step) (chain : Chain n s) (closed
         last = omega arith;
       }
 
-  held-no : (i : ℕ) (p : List Step) → i < length s → has kept (i + 1) ≡ false → Held n kept s i p → Held n kept s (i + 1) p
-  held-no i p h e f =
+  held_no : (i : ℕ) (p : List Step) → i < length s → has kept (i + 1) ≡ false → Held n kept s i p → Held n kept s (i + 1) p
+  held_no i p h e f =
       let r = chain.rises i h in
       let other : (m : ℕ) → m ≡ i + 1 → has kept m ≡ true → ⊥ = λ m q t. true≢false (sym t ∙ ap (has kept) q ∙ e) in
       record {
@@ -89,10 +89,10 @@ module _ (n : ℕ) (kept : List ℕ) (s : List Step) (chain : Chain n s) (closed
       (λ (t : has kept (i + 1) ≡ true).
       let x : Step = renumbered kept (step_at s i) in
       let w : (p ++ x ∷ []) ++ left kept s (i + 1) ≡ p ++ left kept s i = append_assoc p (x ∷ []) (left kept s (i + 1)) ∙ ap (λ (r : List Step). p ++ r) (sym (left_one kept s i (omega arith) t)) in
-      subst (Held n kept s (length s)) w (held_all d (i + 1) (p ++ x ∷ []) (omega arith) (held-yes i p (omega arith) t f)))
+      subst (Held n kept s (length s)) w (held_all d (i + 1) (p ++ x ∷ []) (omega arith) (held_yes i p (omega arith) t f)))
       (λ (t : has kept (i + 1) ≡ false).
       subst (Held n kept s (length s)) (ap (λ (r : List Step). p ++ r) (sym (left_none kept s i (omega arith) t)))
-      (held_all d (i + 1) p (omega arith) (held-no i p (omega arith) t f)))
+      (held_all d (i + 1) p (omega arith) (held_no i p (omega arith) t f)))
       (cases_Bool (has kept (i + 1)))
 
   pub held : Held n kept s (length s) (keep kept s)

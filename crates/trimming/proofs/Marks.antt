@@ -45,19 +45,19 @@ module _ (marks : List Bool) (roots : List ℕ) (s : List Step) (b : ℕ) (pos :
   abbrev later : List ℕ
   later = after roots s (b - 1 + 1)
 
-  marked-later : Marked marks later
-  marked-later = let e : b ≡ b - 1 + 1 = omega arith in subst (λ (x : ℕ). Marked marks (after roots s x)) e inv
+  marked_later : Marked marks later
+  marked_later = let e : b ≡ b - 1 + 1 = omega arith in subst (λ (x : ℕ). Marked marks (after roots s x)) e inv
 
   pub marked-yes : (j k : ℕ) → j < 129 → k < 129 → j ≡ (step_at s (b - 1)).j → k ≡ (step_at s (b - 1)).k → get_or marks (b - 1 + 1) false ≡ true → Marked (set (set marks j true) k true) (after roots s (b - 1))
   marked-yes j k jl kl je ke t =
-      let f = marked-later in
+      let f = marked_later in
       let y = with-yes (b - 1 + 1) (step_at s (b - 1)) later (sym (f.same (b - 1 + 1) (omega arith)) ∙ t) in
       let e : k ∷ j ∷ later ≡ after roots s (b - 1) = ap (λ (x : ℕ). x ∷ j ∷ later) ke ∙ ap (λ (x : ℕ). (step_at s (b - 1)).k ∷ x ∷ later) je ∙ sym (after_here roots s (b - 1) (omega arith) ∙ y) in
       subst (Marked (set (set marks j true) k true)) e (marked_more (set marks j true) (j ∷ later) k kl (marked_more marks later j jl f))
 
   pub marked-no : get_or marks (b - 1 + 1) false ≡ false → Marked marks (after roots s (b - 1))
   marked-no t =
-      let f = marked-later in
+      let f = marked_later in
       let n = with-no (b - 1 + 1) (step_at s (b - 1)) later (sym (f.same (b - 1 + 1) (omega arith)) ∙ t) in
       subst (Marked marks) (sym (after_here roots s (b - 1) (omega arith) ∙ n)) f
 

@@ -29,15 +29,15 @@ module _ (i : ℕ) (x : Step) (l : List ℕ) where
   pub with-no : has l i ≡ false → with_cited i x l ≡ l
   with-no e = ap (λ (b : Bool). cond b (x.k ∷ x.j ∷ l) l) e
 
-  with-more : (m : ℕ) → has l m ≡ true → has (with_cited i x l) m ≡ true
-  with-more m e =
+  with_more : (m : ℕ) → has l m ≡ true → has (with_cited i x l) m ≡ true
+  with_more m e =
       ⊎_elim
       (λ (t : has l i ≡ true). ap (λ (r : List ℕ). has r m) (with-yes t) ∙ or_right (eqb m x.k) (eqb m x.j || has l m) (or_right (eqb m x.j) (has l m) e))
       (λ (t : has l i ≡ false). ap (λ (r : List ℕ). has r m) (with-no t) ∙ e)
       (cases_Bool (has l i))
 
-  with-cited : (m : ℕ) → has l i ≡ true → Cited x m → has (with_cited i x l) m ≡ true
-  with-cited m t c =
+  with_cited_lem : (m : ℕ) → has l i ≡ true → Cited x m → has (with_cited i x l) m ≡ true
+  with_cited_lem m t c =
       ap (λ (r : List ℕ). has r m) (with-yes t)
       ∙ ⊎_elim
       (λ (e : m ≡ x.j). or_right (eqb m x.k) (eqb m x.j || has l m) (or_left (eqb m x.j) (has l m) (eq-eqb m x.j e)))
@@ -64,7 +64,7 @@ module _ (roots : List ℕ) (s : List Step) where
   up (suc i) m h e =
       let k : i + 1 ≡ suc i = omega arith in
       up i m (omega arith)
-      (ap (λ (l : List ℕ). has l m) (after_here roots s i (omega arith)) ∙ with-more (i + 1) (step_at s i) (after roots s (i + 1)) m (ap (λ (y : ℕ). has (after roots s y) m) k ∙ e))
+      (ap (λ (l : List ℕ). has l m) (after_here roots s i (omega arith)) ∙ with_more (i + 1) (step_at s i) (after roots s (i + 1)) m (ap (λ (y : ℕ). has (after roots s y) m) k ∙ e))
 
   pub root-needed : (m : ℕ) → has roots m ≡ true → has (needed_for roots s) m ≡ true
   root-needed m e = up (length s) m (omega arith) (ap (λ (l : List ℕ). has l m) (after_end roots s) ∙ e)
@@ -86,7 +86,7 @@ module _ (roots : List ℕ) (s : List Step) where
   pub cited-needed : (i m : ℕ) → Cites s → i < length s → has (needed_for roots s) (i + 1) ≡ true → Cited (step_at s i) m → has (needed_for roots s) m ≡ true
   cited-needed i m c h e q =
       let f = late (i + 1) 0 (i + 1) c (omega arith) (omega arith) (ap (λ (l : List ℕ). has l (i + 1)) (after_all roots s) ∙ e) in
-      up i m (omega arith) (ap (λ (l : List ℕ). has l m) (after_here roots s i h) ∙ with-cited (i + 1) (step_at s i) (after roots s (i + 1)) m f q)
+      up i m (omega arith) (ap (λ (l : List ℕ). has l m) (after_here roots s i h) ∙ with_cited_lem (i + 1) (step_at s i) (after roots s (i + 1)) m f q)
 
   -- a needed step cites value m
   abbrev pub Citing : ℕ → Type 0

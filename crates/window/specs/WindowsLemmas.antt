@@ -44,14 +44,14 @@ module _ {V : Type 0} (s : State V) (w z : ℕ) where
     pub fits : length s.cells ≤ 255 → w + c < 256
     fits few = let i = inside in omega arith
 
-    win-at : get_or (windowed w z s).cells c None ≡ slice_index_or s.cells (w + c) None
-    win-at =
+    win_at : get_or (windowed w z s).cells c None ≡ slice_index_or s.cells (w + c) None
+    win_at =
         let e = win_length s w z in
         let k : c < z = omega arith in
         get_or-take z (drop w s.cells) c None k ∙ get_or-drop w s.cells c None
 
-    win-set : (x : Option V) → take z (drop w (slice_set s.cells (w + c) x)) ≡ slice_set (windowed w z s).cells c x
-    win-set x =
+    win_set : (x : Option V) → take z (drop w (slice_set s.cells (w + c) x)) ≡ slice_set (windowed w z s).cells c x
+    win_set x =
         let e = win_length s w z in
         let k : c < z = omega arith in
         ap (take z) (drop-set-add w s.cells c x) ∙ take-set-lt z (drop w s.cells) c x k
@@ -59,7 +59,7 @@ module _ {V : Type 0} (s : State V) (w z : ℕ) where
     read_same : reading (windowed w z s) c ≡ content (slice_index_or s.cells (w + c) None) c
     read_same =
         let p = lt-ltb c (length (windowed w z s).cells) h in
-        simp (p, win-at)
+        simp (p, win_at)
 
     pub read_ok : (v : V) → Ok v ≡ reading s (w + c) → Ok v ≡ reading (windowed w z s) c
     read_ok v e =
@@ -77,7 +77,7 @@ module _ {V : Type 0} (s : State V) (w z : ℕ) where
     loads-below = record { cell = inside c l.cell; native = l.native }
 
     pub loaded-below : windowed w z (loaded s (w + c) v) ≡ loaded (windowed w z s) c v
-    loaded-below = ap (λ (cells : List (Option V)). record { cells = cells; left = s.left; log = None }) (win-set c l.cell (Some v))
+    loaded-below = ap (λ (cells : List (Option V)). record { cells = cells; left = s.left; log = None }) (win_set c l.cell (Some v))
 
   module _ (to a b : ℕ) (l : Multiplies (windowed w z s) to a b) where
     -- a multiplication that the window accepts is accepted below
@@ -86,14 +86,14 @@ module _ {V : Type 0} (s : State V) (w z : ℕ) where
       to_there = inside to l.to-there;
       a_there = inside a l.a-there;
       b_there = inside b l.b_there;
-      a_filled = sym (ap is_some (win-at a l.a-there)) ∙ l.a-filled;
-      b_filled = sym (ap is_some (win-at b l.b_there)) ∙ l.b-filled;
+      a_filled = sym (ap is_some (win_at a l.a-there)) ∙ l.a-filled;
+      b_filled = sym (ap is_some (win_at b l.b_there)) ∙ l.b-filled;
       some = l.some;
     }
 
     pub multiplied-below : (m : Meaning V) → windowed w z (multiplied m s (w + to) (w + a) (w + b)) ≡ multiplied m (windowed w z s) to a b
     multiplied-below m =
         let held : both m.times (slice_index_or s.cells (w + a) None) (slice_index_or s.cells (w + b) None) ≡ both m.times (slice_index_or (windowed w z s).cells a None) (slice_index_or (windowed w z s).cells b None) =
-        rw (win-at a l.a-there, win-at b l.b_there) in
+        rw (win_at a l.a-there, win_at b l.b_there) in
         ap (λ (cells : List (Option V)). record { cells = cells; left = s.left - 1; log = None })
-        (win-set to l.to-there (both m.times (slice_index_or s.cells (w + a) None) (slice_index_or s.cells (w + b) None)) ∙ ap (set (windowed w z s).cells to) held)
+        (win_set to l.to-there (both m.times (slice_index_or s.cells (w + a) None) (slice_index_or s.cells (w + b) None)) ∙ ap (set (windowed w z s).cells to) held)

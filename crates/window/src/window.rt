@@ -5,7 +5,7 @@ ghost use Rattle.units.specs.Units.{SameShape, load_fault, loaded, load_answer, 
 ghost use Rattle.window.specs.Windows.{windowed};
 ghost use Rattle.std.proofs.Common.{rules};
 ghost use Rattle.window.specs.WindowsLemmas as Windows;
-ghost use Rattle.window.specs.WindowsLemmas.{win-native};
+ghost use Rattle.window.specs.WindowsLemmas.{win_native};
 
 use kinds::Kind;
 use refusals::Refusal;
@@ -66,7 +66,7 @@ impl<U: Unit> Unit for Window<U> {
 
     ghost few = { λ u. Windows.few (U.Unit.state u.below) u.from u.size (U.Unit.few u.below) };
 
-    ghost native = { λ u. win-native (U.Unit.state u.below) u.from u.size (U.Kind.kind u.below) (U.Unit.native u.below) };
+    ghost native = { λ u. win_native (U.Unit.state u.below) u.from u.size (U.Kind.kind u.below) (U.Unit.native u.below) };
 
     fn cells(&self) -> u8 {
         self.below.cells().saturating_sub(self.from).min(self.size)

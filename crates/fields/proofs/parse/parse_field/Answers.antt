@@ -22,19 +22,19 @@ loop-k-init c =
     let h : c.blanks-i.result < length c.args.b.now = omega arith in
     (pow_some c.blanks-i.result, ap numeral_value c.blanks-i.ensures.skipped ∙ begins c.args.b.now c.blanks-i.result h (c.blanks-i.ensures.stops h) (λ e. omega arith))
 
-pub returns-in-default : goal.returns-in-default
-returns-in-default c =
+pub returns-in_default : goal.returns-in_default
+returns-in_default c =
     record { value = sym (narrow c.args.b.now (omega arith) ∙ c.loop-k.invariant.1 ∙ stops c.args.b.now c.loop-k.v c.loop-k.k c.loop-k-test.true (λ l m. omega arith)); back = tt }
 
-pub returns-in-default·2 : goal.returns-in-default·2
-returns-in-default·2 c =
+pub returns-in_default-2 : goal.returns-in_default-2
+returns-in_default-2 c =
     record { value = sym (narrow c.args.b.now (omega arith) ∙ c.loop-k.invariant.1 ∙ stops c.args.b.now c.loop-k.v c.loop-k.k c.loop-k-test.true (λ l m. omega arith)); back = tt }
 
-pub overflow-mul-v : goal.overflow-mul-v
-overflow-mul-v c = omega (arith, room c.loop-k.v c.loop-k.k c.loop-k.invariant.0, below c.loop-k.k (omega arith))
+pub overflow_mul-v : goal.overflow_mul-v
+overflow_mul-v c = omega (arith, room c.loop-k.v c.loop-k.k c.loop-k.invariant.0, below c.loop-k.k (omega arith))
 
-pub overflow-add-v : goal.overflow-add-v
-overflow-add-v c = omega (arith, room c.loop-k.v c.loop-k.k c.loop-k.invariant.0, below c.loop-k.k (omega arith))
+pub overflow_add-v : goal.overflow_add-v
+overflow_add-v c = omega (arith, room c.loop-k.v c.loop-k.k c.loop-k.invariant.0, below c.loop-k.k (omega arith))
 
 pub loop-k-preserved : goal.loop-k-preserved
 loop-k-preserved c = (

@@ -5,8 +5,8 @@ use Rattle.fields.proofs.write.digits.Goals as goal
 pub loop-n-init : goal.loop-n-init
 loop-n-init c = (counted_first c.args.v (omega arith), omega arith)
 
-pub overflow-add-count : goal.overflow-add-count
-overflow-add-count c = omega (arith, at_most_twenty c.args.v (omega arith))
+pub overflow_add-count : goal.overflow_add-count
+overflow_add-count c = omega (arith, at_most_twenty c.args.v (omega arith))
 
 pub loop-n-preserved : goal.loop-n-preserved
 loop-n-preserved c = (counted_more c.loop-n.n c.loop-n.count _ c.loop-n-test.true (omega arith) c.loop-n.invariant.0, omega arith)

@@ -3,8 +3,8 @@ use Rattle.std.proofs.lemmas.Fmt.{decimal_nonempty}
 use Rattle.fields.proofs.Digits.{digit_in, digit_first, blank_in, blanks_none, column_left}
 use Rattle.fields.proofs.write.fill_field.Goals as goal
 
-pub overflow-sub-i : goal.overflow-sub-i
-overflow-sub-i c = omega (arith, decimal_nonempty c.args.v (omega arith))
+pub overflow_sub-i : goal.overflow_sub-i
+overflow_sub-i c = omega (arith, decimal_nonempty c.args.v (omega arith))
 
 pub bounds-out-i : goal.bounds-out-i
 bounds-out-i c = omega (arith, decimal_nonempty c.args.v (omega arith))
@@ -14,8 +14,8 @@ loop-n-init c =
     let p : 0 < length c.args.out.now = omega (arith, decimal_nonempty c.args.v (omega arith)) in
     (simp length-set (omega arith), simp length-set (omega arith), digit_first c.args.out.now c.args.v (omega arith) p, omega arith)
 
-pub overflow-sub-i-in-loop-n : goal.overflow-sub-i-in-loop-n
-overflow-sub-i-in-loop-n c = column_left c.loop-n.out c.args.v c.loop-n.n c.loop-n.i c.loop-n-test.true (omega arith) (omega arith) (omega arith) c.loop-n.invariant.2
+pub overflow_sub-i-in-loop-n : goal.overflow_sub-i-in-loop-n
+overflow_sub-i-in-loop-n c = column_left c.loop-n.out c.args.v c.loop-n.n c.loop-n.i c.loop-n-test.true (omega arith) (omega arith) (omega arith) c.loop-n.invariant.2
 
 pub loop-n-preserved : goal.loop-n-preserved
 loop-n-preserved c =

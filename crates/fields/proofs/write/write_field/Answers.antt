@@ -7,5 +7,5 @@ pub returns : goal.returns
 returns c = record {
   answer = search rules;
   after = search rules;
-  back = λ _ narrow. ap field_value c.fill-field.ensures.after ∙ read_field (length c.args.out.now) c.args.v narrow (omega arith) (omega arith);
+  back = λ _ narrow. ap field_value c.fill_field.ensures.after ∙ read_field (length c.args.out.now) c.args.v narrow (omega arith) (omega arith);
 }

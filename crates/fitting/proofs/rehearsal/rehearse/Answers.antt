@@ -13,7 +13,7 @@ use Rattle.run_sheet.specs.RunSheets.{sheeted}
 use Rattle.run_laws.specs.Runs.{run_fault}
 use Rattle.fitting.specs.Fitting.{rehearsal_fault, rehearsed_in}
 use Rattle.refusals.proofs.Answered.{answer_none, answer_some, settle_none}
-use Rattle.fitting.proofs.Rehearsed.{one_count, outset, outset_is, fault-is, few, sums-small, front-is}
+use Rattle.fitting.proofs.Rehearsed.{one_count, outset, outset_is, fault_is, few, sums-small, front-is}
 use Rattle.fitting.proofs.rehearsal.rehearse.Goals as goal
 
 pub returns-in-err-run : goal.returns-in-err-run
@@ -24,7 +24,7 @@ returns-in-err-run c =
     let begun : s ≡ outset = outset_is b.records b.len (bank b.below.places b.below.left) c.new-sheet.ensures.len (ap (λ z. bank z.places z.left) c.new-sheet.ensures.below ∙ c.new.ensures.empty) in
     let e : Refusal = c.in-err-run.field-0.0 in
     let f : run_fault counting s plan.steps.now one_count ≡ Some e = answer_some (run_fault counting s plan.steps.now one_count) e _ c.in-err-run.ensures.answer in
-    let stopped : rehearsal_fault plan.steps.now ≡ Some e = sym (fault-is plan.exponent plan.steps.now (chain_of_lem plan) s begun) ∙ f in
+    let stopped : rehearsal_fault plan.steps.now ≡ Some e = sym (fault_is plan.exponent plan.steps.now (chain_of_lem plan) s begun) ∙ f in
     let p = err_from_is_err_and c.from-residual.result c.from-residual.ensures.1 in
     rw (p.1, p.2) (record {
       answer = sym (ap verdict stopped);
@@ -56,7 +56,7 @@ returns c =
     let t : State Count = sheeted d.records d.len (bank d.below.places d.below.left) in
     let within : d.len ≤ length d.records = omega (arith, d.within, d.full) in
     let f : run_fault counting s plan.steps.now one_count ≡ None = answer_none (run_fault counting s plan.steps.now one_count) c.in-ok-run.field-0 _ c.in-ok-run.ensures.answer in
-    let fine : rehearsal_fault plan.steps.now ≡ None = sym (fault-is plan.exponent plan.steps.now (chain_of_lem plan) s begun) ∙ f in
+    let fine : rehearsal_fault plan.steps.now ≡ None = sym (fault_is plan.exponent plan.steps.now (chain_of_lem plan) s begun) ∙ f in
     record {
       answer = sym (ap verdict fine);
       after = c.work-records.ensures.after
