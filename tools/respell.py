@@ -17,7 +17,7 @@ import sys
 
 DECLARED = re.compile(r"^(?:(?:abbrev|unfoldable|pattern|pub) )*([^\s:(){}]+)(?:\s*\{[^}]*\})*\s*:\s")
 RECORD = re.compile(r"^(?:pub )?record (\S+)")
-NESTED = re.compile(r"^( +)([^\s:(){}]+)(?:\s*\{[^}]*\})*\s*:\s")
+NESTED = re.compile(r"^( +)(?:(?:abbrev|unfoldable|pattern|pub) )*([^\s:(){}]+)(?:\s*\{[^}]*\})*\s*:\s")
 FIELD = re.compile(r"^\s+(?:pub )?([^\s:(){}]+)\s*:\s")
 WORD = r"[^\s(){}.;,@\"«»\[\]\\:]+"
 IN_PROOFS = re.compile(r"--[^\n]*|" + WORD)

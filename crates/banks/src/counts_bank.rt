@@ -38,9 +38,9 @@ impl Kind for CountsBank {
 
     ghost kind = { λ _. counting };
 
-    ghost closed = { first_of (Prim.search rules, Prim.grind (arith, Self.row.coded.inj)) };
+    ghost closed = { Prim.search rules };
 
-    ghost assoc = { first_of (Prim.search rules, Prim.grind (arith, Self.row.coded.inj)) };
+    ghost assoc = { Prim.search rules };
 
     fn is_native(&self, v: Count) -> bool {
         self.rule.is_native(v)
@@ -54,9 +54,9 @@ impl Kind for CountsBank {
 impl Unit for CountsBank {
     ghost state = { λ b. bank b.places b.left };
 
-    ghost few = { first_of (Prim.search rules, Prim.grind (arith, Self.row.coded.inj)) };
+    ghost few = { Prim.search rules };
 
-    ghost native = { first_of (Prim.search rules, Prim.grind (arith, Self.row.coded.inj)) };
+    ghost native = { λ b. b.native };
 
     fn cells(&self) -> u8 {
         32

@@ -25,9 +25,9 @@ fn put<V: Copy>(places: &mut [Option<V>], i: usize, held: Option<V>)
 
 // The product of two places, if both hold a value.
 fn product<K: Kind>(rule: &K, x: Option<K::Value>, y: Option<K::Value>) -> Option<K::Value>
-    requires left { Native (kind rule.now) x }
-    requires right { Native (kind rule.now) y }
-    ensures { result ≡ both (kind rule.now).times x y }
+    requires left { Native (K.kind rule.now) x }
+    requires right { Native (K.kind rule.now) y }
+    ensures { result ≡ both (K.kind rule.now).times x y }
 {
     rule.product(x?, y?)
 }
@@ -48,10 +48,10 @@ pub(crate) fn read<V: Copy>(places: &[Option<V>], cell: u8) -> Result<V, Refusal
 
 /// Puts a value into a cell; the load is known to be accepted.
 pub(crate) fn load<K: Kind>(rule: &K, places: &mut [Option<K::Value>], cell: u8, v: K::Value)
-    requires native { AllNative (kind rule.now) places.old }
-    requires accepted { load_answer (kind rule.now) (bank places.old 0) cell v ≡ Ok tt }
-    ensures after { bank places.new 0 ≡ load_after (kind rule.now) (bank places.old 0) cell v }
-    ensures native { AllNative (kind rule.now) places.new }
+    requires native { AllNative (K.kind rule.now) places.old }
+    requires accepted { load_answer (K.kind rule.now) (bank places.old 0) cell v ≡ Ok tt }
+    ensures after { bank places.new 0 ≡ load_after (K.kind rule.now) (bank places.old 0) cell v }
+    ensures native { AllNative (K.kind rule.now) places.new }
 {
     put(places, cell as usize, Some(v));
 }
@@ -65,10 +65,10 @@ pub(crate) fn multiply<K: Kind>(
     a: u8,
     b: u8,
 )
-    requires native { AllNative (kind rule.now) places.old }
+    requires native { AllNative (K.kind rule.now) places.old }
     requires accepted { multiply_answer (bank places.old left.old) to a b ≡ Ok tt }
-    ensures after { bank places.new left.new ≡ multiply_after (kind rule.now) (bank places.old left.old) to a b }
-    ensures native { AllNative (kind rule.now) places.new }
+    ensures after { bank places.new left.new ≡ multiply_after (K.kind rule.now) (bank places.old left.old) to a b }
+    ensures native { AllNative (K.kind rule.now) places.new }
 {
     let x = held(places, a as usize);
     let y = held(places, b as usize);

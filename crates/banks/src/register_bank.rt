@@ -65,9 +65,9 @@ impl Kind for RegisterBank {
 impl Unit for RegisterBank {
     ghost state = { λ b. bank b.places b.left };
 
-    ghost few = { first_of (Prim.search rules, Prim.grind (arith, Self.row.coded.inj)) };
+    ghost few = { Prim.search rules };
 
-    ghost native = { first_of (Prim.search rules, Prim.grind (arith, Self.row.coded.inj)) };
+    ghost native = { λ b. b.native };
 
     fn cells(&self) -> u8 {
         32

@@ -40,7 +40,7 @@ impl Kind for ResiduesBank {
 
     ghost kind = { λ b. residues b.rule.modulus };
 
-    ghost closed = { first_of (Prim.search rules, Prim.grind (arith, Self.row.coded.inj)) };
+    ghost closed = { Prim.search rules };
 
     ghost assoc = { λ bank a b c native-a native-b native-c. residue_assoc bank.rule.modulus a b c };
 
@@ -56,9 +56,9 @@ impl Kind for ResiduesBank {
 impl Unit for ResiduesBank {
     ghost state = { λ b. bank b.places b.left };
 
-    ghost few = { first_of (Prim.search rules, Prim.grind (arith, Self.row.coded.inj)) };
+    ghost few = { Prim.search rules };
 
-    ghost native = { first_of (Prim.search rules, Prim.grind (arith, Self.row.coded.inj)) };
+    ghost native = { λ b. b.native };
 
     fn cells(&self) -> u8 {
         32

@@ -10,14 +10,14 @@ module _ {V : Type 0} (m : Meaning V) (closed : Closed m) (a b : V) (native-a : 
   chained_native (suc n) = closed (chained m a b n) b (chained_native n) native-b
 
   -- the next product is there, and is the next link
-  pub chained-next : (n : ℕ) (v : V) → v ≡ chained m a b n → product_of m v b ≡ Some (chained m a b (n + 1))
+  pub chained_next : (n : ℕ) (v : V) → v ≡ chained m a b n → product_of m v b ≡ Some (chained m a b (n + 1))
   unfolding chained
-  chained-next n v e =
+  chained_next n v e =
       let h : m.native v ≡ true = ap m.native e ∙ chained_native n in
       rw (add-one n, h, native-b) (ap (λ (z : V). Some (m.times z b)) e)
 
-  pub chain-whole : (n : ℕ) → chain_of m a b n ≡ Some (chained m a b n)
-  chain-whole n = rw (native-a, native-b) refl
+  pub chain_whole : (n : ℕ) → chain_of m a b n ≡ Some (chained m a b n)
+  chain_whole n = rw (native-a, native-b) refl
 
 pub chained_none : {V : Type 0} (m : Meaning V) (a b : V) → chained m a b 0 ≡ a
 unfolding chained

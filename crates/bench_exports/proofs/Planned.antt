@@ -28,8 +28,8 @@ unfolding checksum_from
 sum_all sum i steps h = ap (checksum_from sum) (drop_of_length-le steps h)
 
 module _ (q : PlanRequest) (m : Method) (chosen : Some m ≡ method_of q.method q.width) where
-  pub sum-refused : (e : Refusal) → Err e ≡ length_or (request_by m q.exponent 128 1025) (plan_of m q.exponent) → refused ≡ checksum_or (plan_for q)
-  sum-refused e h =
+  pub sum_refused : (e : Refusal) → Err e ≡ length_or (request_by m q.exponent 128 1025) (plan_of m q.exponent) → refused ≡ checksum_or (plan_for q)
+  sum_refused e h =
       go (is_exponent q.exponent) (allows m q.exponent) (h ∙ planned_tested m q.exponent 128 1025 (plan_of m q.exponent) (omega arith) (omega arith))
       ∙ sym (ap checksum_or (plan_by_lem q m chosen))
     where
@@ -38,9 +38,9 @@ module _ (q : PlanRequest) (m : Method) (chosen : Some m ≡ method_of q.method 
       go true false k = refl
       go false b k = refl
 
-  pub sum-made : (len sum : ℕ) (was now : List Step) → Ok len ≡ length_or (request_by m q.exponent 128 1025) (plan_of m q.exponent)
+  pub sum_made : (len sum : ℕ) (was now : List Step) → Ok len ≡ length_or (request_by m q.exponent 128 1025) (plan_of m q.exponent)
       → now ≡ written (Ok len) (plan_of m q.exponent) was → sum ≡ checksum_from 0 (take len now) → sum / 2 ≡ checksum_or (plan_for q)
-  sum-made len sum was now h w s =
+  sum_made len sum was now h w s =
       ap (λ (x : ℕ). x / 2) s
       ∙ go (is_exponent q.exponent) (allows m q.exponent) (h ∙ planned_tested m q.exponent 128 1025 (plan_of m q.exponent) (omega arith) (omega arith))
       ∙ sym (ap checksum_or (plan_by_lem q m chosen))

@@ -27,9 +27,9 @@ module _ (f : ℕ) (x : Word) (n : ℕ) (s : List Step) (chain : Chain n s) wher
       go true = let h : length s + 1 ≤ 129 = omega (arith, chain.short) in rw (le-leb (length s + 1) 129 h) refl
       go false = refl
 
-  pub raised-refused : (e : Refusal) (r : Result Word Refusal) → Err e ≡ straight_answer (polynomials f) s x 129 → IsErrAnd r (λ d. d ≡ e) → r ≡ raised f x n
-  raised-refused e (Ok v) h k = absurd k
-  raised-refused e (Err d) h k = ap Err k ∙ go (is_reduced f x) (h ∙ answer_by) ∙ sym raised_by
+  pub raised_refused : (e : Refusal) (r : Result Word Refusal) → Err e ≡ straight_answer (polynomials f) s x 129 → IsErrAnd r (λ d. d ≡ e) → r ≡ raised f x n
+  raised_refused e (Ok v) h k = absurd k
+  raised_refused e (Err d) h k = ap Err k ∙ go (is_reduced f x) (h ∙ answer_by) ∙ sym raised_by
     where
       go : (b : Bool) → Err e ≡ verdict (unless b NotNative) → Err e ≡ answer (unless b NotNative) (power (polynomials f) x n)
       go true t = cc
@@ -41,9 +41,9 @@ module _ (f : ℕ) (x : Word) (n : ℕ) (s : List Step) (chain : Chain n s) wher
       ∙ get_or-map (power (polynomials f) x) (values s) (length s) 0 d (omega (arith, values_length s))
       ∙ ap (power (polynomials f) x) chain.reaches
 
-  pub raised-made : (len : ℕ) (d : Word) (was now : List Word) → len ≡ length s → length was ≡ 129 → Ok tt ≡ straight_answer (polynomials f) s x 129
+  pub raised_made : (len : ℕ) (d : Word) (was now : List Word) → len ≡ length s → length was ≡ 129 → Ok tt ≡ straight_answer (polynomials f) s x 129
       → now ≡ straight_after (polynomials f) s x was → Ok (get_or now len d) ≡ raised f x n
-  raised-made len d was now e l h k = go (is_reduced f x) (h ∙ answer_by) k ∙ sym raised_by
+  raised_made len d was now e l h k = go (is_reduced f x) (h ∙ answer_by) k ∙ sym raised_by
     where
       go : (b : Bool) → Ok tt ≡ verdict (unless b NotNative)
           → now ≡ settle (first (unless b NotNative) (unless (leb (length s + 1) (length was)) (TableShort (length s + 1)))) was (straightened (polynomials f) s x was)

@@ -89,8 +89,8 @@ module _ {n : ℕ} {was : List Step} {b : ℕ} {t : List Step} {at v : ℕ} (g :
   value_is : n / 2 ^ (b - 1) ≡ v + v + bit_at n (b - 1)
   value_is = omega (arith, halves n (b - 1), ap (λ (x : ℕ). n / 2 ^ x) down, g.value)
 
-  pub left-turn-none : (bit_at n (b - 1) ≡ 1 → ⊥) → LeftLoop n was (b - 1) (set t at (step at at (v + v))) (at + 1) (v + v)
-  left-turn-none e =
+  pub left_turn_none : (bit_at n (b - 1) ≡ 1 → ⊥) → LeftLoop n was (b - 1) (set t at (step at at (v + v))) (at + 1) (v + v)
+  left_turn_none e =
       record {
         filled = filled_more (left_to_right n) was t at _ _ (omega (arith, g.long, g.room)) (filled_here _ (left_none n (b - 1) at v e));
         long = omega (arith, g.long, length-set t at (step at at (v + v)));
@@ -98,8 +98,8 @@ module _ {n : ℕ} {was : List Step} {b : ℕ} {t : List Step} {at v : ℕ} (g :
         value = omega (arith, value_is, bit_small n (b - 1));
       }
 
-  pub left-turn-one : bit_at n (b - 1) ≡ 1 → LeftLoop n was (b - 1) (set (set t at (step at at (v + v))) (at + 1) (step (at + 1) 0 (v + v + 1))) (at + 1 + 1) (v + v + 1)
-  left-turn-one e =
+  pub left_turn_one : bit_at n (b - 1) ≡ 1 → LeftLoop n was (b - 1) (set (set t at (step at at (v + v))) (at + 1) (step (at + 1) 0 (v + v + 1))) (at + 1 + 1) (v + v + 1)
+  left_turn_one e =
       let x : Step = step at at (v + v) in
       let l = length-set t at x in
       record {

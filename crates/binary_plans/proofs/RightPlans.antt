@@ -196,8 +196,8 @@ module _ {n high : ℕ} {was : List Step} {bit : ℕ} {t : List Step} {at v s w 
   square_is : v + v ≡ 2 ^ (bit + 1)
   square_is = let a : 2 ^ (bit + 1) ≡ 2 ^ bit * 2 = ap (λ (x : ℕ). 2 ^ x) (add-one bit) ∙ pow-suc 2 bit in omega (arith, g.square)
 
-  pub square-fits : v + v ≤ 2 ^ 63
-  square-fits = let l : bit + 1 ≤ 63 = omega (arith, g.short) in let p : 2 ^ (bit + 1) ≤ 2 ^ 63 = pow_mono l in omega (arith, square_is)
+  pub square_fits : v + v ≤ 2 ^ 63
+  square_fits = let l : bit + 1 ≤ 63 = omega (arith, g.short) in let p : 2 ^ (bit + 1) ≤ 2 ^ 63 = pow_mono l in omega (arith, square_is)
 
   filled_here : (rest : List Step) → right_from n (suc (high - (bit + 1))) bit at v s w ≡ rest → Filled (right_to_left n) was t at rest
   filled_here rest e = subst (Filled (right_to_left n) was t at) (ap (λ (x : ℕ). right_from n x bit at v s w) left_is ∙ e) g.filled
@@ -216,18 +216,18 @@ module _ {n high : ℕ} {was : List Step} {bit : ℕ} {t : List Step} {at v s w 
         sum = c;
       }
 
-  pub right-turn-none : {t1 : List Step} {at1 s1 w1 : ℕ} → t1 ≡ t → at1 ≡ at → s1 ≡ s → w1 ≡ w → (bit_at n bit ≡ 1 → ⊥) → RightLoop n high was (bit + 1) (set t1 at1 (step at at (v + v))) (at1 + 1) (v + v) s1 w1
-  right-turn-none et ea es ew b =
+  pub right_turn_none : {t1 : List Step} {at1 s1 w1 : ℕ} → t1 ≡ t → at1 ≡ at → s1 ≡ s → w1 ≡ w → (bit_at n bit ≡ 1 → ⊥) → RightLoop n high was (bit + 1) (set t1 at1 (step at at (v + v))) (at1 + 1) (v + v) s1 w1
+  right_turn_none et ea es ew b =
       rw (et, ea, es, ew)
       (doubled t at s w refl (omega (arith, g.room)) g.before (omega (arith, g.sum)) (filled_here _ (right_none n (high - (bit + 1)) bit at v s w b)))
 
-  pub right-turn-first : {t1 : List Step} {at1 s1 w1 : ℕ} → t1 ≡ t → at1 ≡ at → s1 ≡ at → w1 ≡ v → bit_at n bit ≡ 1 → w ≡ 0 → RightLoop n high was (bit + 1) (set t1 at1 (step at at (v + v))) (at1 + 1) (v + v) s1 w1
-  right-turn-first et ea es ew b z =
+  pub right_turn_first : {t1 : List Step} {at1 s1 w1 : ℕ} → t1 ≡ t → at1 ≡ at → s1 ≡ at → w1 ≡ v → bit_at n bit ≡ 1 → w ≡ 0 → RightLoop n high was (bit + 1) (set t1 at1 (step at at (v + v))) (at1 + 1) (v + v) s1 w1
+  right_turn_first et ea es ew b z =
       rw (et, ea, es, ew)
       (doubled t at at v refl (omega (arith, g.room)) (omega arith) (omega (arith, g.sum)) (filled_here _ (right_first n (high - (bit + 1)) bit at v s w b z)))
 
-  pub right-turn-more : {t1 : List Step} {at1 s1 w1 : ℕ} → t1 ≡ set t at (step at s (v + w)) → at1 ≡ at + 1 → s1 ≡ at + 1 → w1 ≡ v + w → bit_at n bit ≡ 1 → (w ≡ 0 → ⊥) → RightLoop n high was (bit + 1) (set t1 at1 (step at at (v + v))) (at1 + 1) (v + v) s1 w1
-  right-turn-more et ea es ew b z =
+  pub right_turn_more : {t1 : List Step} {at1 s1 w1 : ℕ} → t1 ≡ set t at (step at s (v + w)) → at1 ≡ at + 1 → s1 ≡ at + 1 → w1 ≡ v + w → bit_at n bit ≡ 1 → (w ≡ 0 → ⊥) → RightLoop n high was (bit + 1) (set t1 at1 (step at at (v + v))) (at1 + 1) (v + v) s1 w1
+  right_turn_more et ea es ew b z =
       rw (et, ea, es, ew)
       (doubled (set t at (step at s (v + w))) (at + 1) (at + 1) (v + w) (length-set t at (step at s (v + w))) (omega (arith, g.room)) (omega arith) (omega (arith, g.sum))
       (filled_more (right_to_left n) was t at _ _ (omega (arith, g.long, g.room, g.short)) (filled_here _ (right_more n (high - (bit + 1)) bit at v s w b z))))
@@ -237,13 +237,13 @@ module _ {n high : ℕ} {was : List Step} {bit : ℕ} {t : List Step} {at v s w 
   filled_end : (rest : List Step) → right_from n 0 bit at v s w ≡ rest → Filled (right_to_left n) was t at rest
   filled_end rest e = let z : high - bit ≡ 0 = omega arith in subst (Filled (right_to_left n) was t at) (ap (λ (x : ℕ). right_from n x bit at v s w) z ∙ e) g.filled
 
-  pub right-done-alone : w ≡ 0 → Finished n (top n + ones n - 1) (right_to_left n) was t at
-  right-done-alone z =
+  pub right_done_alone : w ≡ 0 → Finished n (top n + ones n - 1) (right_to_left n) was t at
+  right_done_alone z =
       let a : at ≤ 124 = omega (arith, g.room, g.short, g.below) in
       finished low bounded long (omega arith) (omega (arith, g.long)) (right_all_length n h.one) (right_all_chain n low bounded h.one) (filled_end [] (right_alone n bit at v s w z))
 
-  pub right-done-last : (w ≡ 0 → ⊥) → Finished n (top n + ones n - 1) (right_to_left n) was (set t at (step at s (v + w))) (at + 1)
-  right-done-last z =
+  pub right_done_last : (w ≡ 0 → ⊥) → Finished n (top n + ones n - 1) (right_to_left n) was (set t at (step at s (v + w))) (at + 1)
+  right_done_last z =
       let a : at ≤ 124 = omega (arith, g.room, g.short, g.below) in
       finished low bounded long (omega arith) (omega (arith, g.long, length-set t at (step at s (v + w)))) (right_all_length n h.one) (right_all_chain n low bounded h.one)
       (filled_more (right_to_left n) was t at _ _ (omega (arith, g.long)) (filled_end _ (right_last n bit at v s w z)))

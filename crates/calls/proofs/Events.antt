@@ -15,7 +15,7 @@ use Rattle.units.specs.Units.{State, load_fault, loaded}
 use Rattle.run_laws.specs.Runs.{run_fault}
 use Rattle.run_laws.specs.Law.{Event, asked, Law}
 use Rattle.run_laws.proofs.Effects.{Effect, InTurn}
-use Rattle.run_laws.proofs.Effected.{accepted-effect, refused-effect, plain_effect, still_effect}
+use Rattle.run_laws.proofs.Effected.{accepted_effect, refused_effect, plain_effect, still_effect}
 use Rattle.run_laws.proofs.Lawful.{lawful}
 use Rattle.runs.specs.declared.raised.Raised.{Raised}
 use Rattle.runs.specs.Answers.{run_answer, Ran}
@@ -53,10 +53,10 @@ module _ {V : Type 0} where
   performed_on m room b c d (x ∷ es) e (n, p, r) q = (n, p, performed_on m room n c d es e r q)
 
   -- one more call, of the kind k that is still m, with a table whose length is still room
-  pub performed-more : (m k : Meaning V) (room long : ℕ) (b c d : Setting V) (cs : List (Call V)) (ys : List (Answer V)) (i : ℕ) (x : Call V) (a : Answer V)
+  pub performed_more : (m k : Meaning V) (room long : ℕ) (b c d : Setting V) (cs : List (Call V)) (ys : List (Answer V)) (i : ℕ) (x : Call V) (a : Answer V)
       → k ≡ m → long ≡ room → i < length cs → i < length ys → x ≡ get_or cs i x
       → Performed m room b (turns (take i cs) ys) c → Made k long x c a d → Performed m room b (turns (take (i + 1) cs) (set ys i a)) d
-  performed-more m k room long b c d cs ys i x a alike size h l is so_far more =
+  performed_more m k room long b c d cs ys i x a alike size h l is so_far more =
       subst (λ (z : List (Turn V)). Performed m room b z d) (sym (turns_more cs ys i x a h l is))
       (performed_on m room b c d (turns (take i cs) ys) (record { call = x; answer = a }) so_far
       (subst (λ (z : Meaning V). Made z room x c a d) alike (subst (λ (z : ℕ). Made k z x c a d) size more)))
@@ -85,8 +85,8 @@ module _ {V : Type 0} where
   run_effect : (m : Meaning V) (s t : State V) (n : ℕ) (steps : List Step) (x : V) (f : Option Refusal) → run_fault m s steps x ≡ f
       → Ran m s n steps x (answer f (record { value = power m x n })) t
       → Effect m s (record { run = Some (asked m n steps x); given = handed_out (answer f (record { value = power m x n })) }) t
-  run_effect m s t n steps x (Some e) is q = refused-effect m s n steps x e t is q
-  run_effect m s t n steps x None is q = accepted-effect m s n steps x (power m x n) t is q
+  run_effect m s t n steps x (Some e) is q = refused_effect m s n steps x e t is q
+  run_effect m s t n steps x None is q = accepted_effect m s n steps x (power m x n) t is q
 
   handed_staged : (g : Stage) (r : Result (Raised V) Refusal) → handed_out (staged g r) ≡ handed_out r
   handed_staged g (Ok y) = refl
@@ -121,9 +121,9 @@ module _ {V : Type 0} where
   effects m room b [] d q = ap (λ (z : Setting V). z.unit) q
   effects m room b (e ∷ es) d (c, p, q) = (c.unit, made_effect m room e.call.plan e.call.act b e.answer c p, effects m room c es d q)
 
-  pub law-of : (m : Meaning V) (room : ℕ) (b : Setting V) (es : List (Turn V)) (d : Setting V) → Performed m room b es d → Law m b.unit (map (event_of m room) es) d.unit
-  law-of m room b es d done = lawful m b.unit d.unit (map (event_of m room) es) (effects m room b es d done)
+  pub law_of : (m : Meaning V) (room : ℕ) (b : Setting V) (es : List (Turn V)) (d : Setting V) → Performed m room b es d → Law m b.unit (map (event_of m room) es) d.unit
+  law_of m room b es d done = lawful m b.unit d.unit (map (event_of m room) es) (effects m room b es d done)
 
   -- the same of one call alone
-  pub law-of-one : (m : Meaning V) (room : ℕ) (b : Setting V) (x : Call V) (a : Answer V) (d : Setting V) → Made m room x b a d → Law m b.unit (events m room (x ∷ []) (a ∷ [])) d.unit
-  law-of-one m room b x a d done = law-of m room b (record { call = x; answer = a } ∷ []) d (d, done, refl)
+  pub law_of_one : (m : Meaning V) (room : ℕ) (b : Setting V) (x : Call V) (a : Answer V) (d : Setting V) → Made m room x b a d → Law m b.unit (events m room (x ∷ []) (a ∷ [])) d.unit
+  law_of_one m room b x a d done = law_of m room b (record { call = x; answer = a } ∷ []) d (d, done, refl)

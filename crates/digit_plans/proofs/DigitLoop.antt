@@ -24,11 +24,11 @@ sets_front t xs h = sets-eq xs t 0 (omega arith) ∙ ap (λ (k : ℕ). xs ++ dro
 
 -- what the steps for one digit leave, after the doublings: nothing more where the digit is 0, and else its addition
 module _ (k e at from v : ℕ) (was : List Step) {t : List Step} {len : ℕ} (count : len ≡ at + length (doubles (2 ^ k) k at from v)) (table : t ≡ sets was at (doubles (2 ^ k) k at from v)) where
-  pub digit-none : e ≡ 0 → (len ≡ at + length (one_digit k e at from v)) × (t ≡ sets was at (one_digit k e at from v))
-  digit-none z = let o = one_none k e at from v z in (omega (arith, ap length o), table ∙ sym (ap (sets was at) o))
+  pub digit_none : e ≡ 0 → (len ≡ at + length (one_digit k e at from v)) × (t ≡ sets was at (one_digit k e at from v))
+  digit_none z = let o = one_none k e at from v z in (omega (arith, ap length o), table ∙ sym (ap (sets was at) o))
 
-  pub digit-some : (e ≡ 0 → ⊥) → (w : ℕ) → w ≡ v * 2 ^ k + e → (len + 1 ≡ at + length (one_digit k e at from v)) × (set t len (step len (e - 1) w) ≡ sets was at (one_digit k e at from v))
-  digit-some z w ew =
+  pub digit_some : (e ≡ 0 → ⊥) → (w : ℕ) → w ≡ v * 2 ^ k + e → (len + 1 ≡ at + length (one_digit k e at from v)) × (set t len (step len (e - 1) w) ≡ sets was at (one_digit k e at from v))
+  digit_some z w ew =
       let ds : List Step = doubles (2 ^ k) k at from v in
       let x : Step = step len (e - 1) w in
       let o : one_digit k e at from v ≡ ds ++ x ∷ [] = one_some k e at from v z ∙ rw (count, ew) refl in (
@@ -147,22 +147,22 @@ module _ {k n m : ℕ} {was t : List Step} {len place : ℕ} (l : Listed k n m w
       ∙ ap (λ (x : ℕ). count_from len 0 ++ from x len) (sym l.top)
 
   -- the list and the steps of all the digits are the plan
-  pub listed-table : sets t len (from place len) ≡ sets was 0 (digits_plan k n)
-  listed-table =
+  pub listed_table : sets t len (from place len) ≡ sets was 0 (digits_plan k n)
+  listed_table =
       let e : len ≡ 0 + length (count_from len 0) = omega (arith, count_length len 0) in
       ap (λ (x : List Step). sets x len (from place len)) list_is
       ∙ ap (λ (x : ℕ). sets (sets was 0 (count_from len 0)) x (from place len)) e
       ∙ sym (sets_append was 0 (count_from len 0) (from place len))
       ∙ ap (sets was 0) (sym plan_is)
 
-  pub listed-count : len + length (from place len) ≡ length (digits_plan k n)
-  listed-count = omega (arith, ap length plan_is, length-append (count_from len 0) (from place len), count_length len 0)
+  pub listed_count : len + length (from place len) ≡ length (digits_plan k n)
+  listed_count = omega (arith, ap length plan_is, length-append (count_from len 0) (from place len), count_length len 0)
 
-  pub top-positive : 1 ≤ k → n < 2 ^ 63 → 1 ≤ n / 2 ^ (place * k)
-  top-positive a c = subst (λ (x : ℕ). 1 ≤ n / 2 ^ (x * k)) (sym l.top) (the_top k n a above c).positive
+  pub top_positive : 1 ≤ k → n < 2 ^ 63 → 1 ≤ n / 2 ^ (place * k)
+  top_positive a c = subst (λ (x : ℕ). 1 ≤ n / 2 ^ (x * k)) (sym l.top) (the_top k n a above c).positive
 
-  pub turning-first : 1 ≤ k → k ≤ 5 → n < 2 ^ 63 → 128 ≤ length was → Turning k n place t len (n / 2 ^ (place * k) - 1) (n / 2 ^ (place * k)) (sets t len (from place len)) (len + length (from place len))
-  turning-first a b c d =
+  pub turning_first : 1 ≤ k → k ≤ 5 → n < 2 ^ 63 → 128 ≤ length was → Turning k n place t len (n / 2 ^ (place * k) - 1) (n / 2 ^ (place * k)) (sets t len (from place len)) (len + length (from place len))
+  turning_first a b c d =
       let y = the_top k n a above c in
       let tb : top n ≤ 62 = top_below (top n) n (top_low n (omega (arith, above, pow_pos k))) c in
       let p : place * k ≡ lower k n * k = ap (λ (x : ℕ). x * k) l.top in
@@ -173,7 +173,7 @@ module _ {k n m : ℕ} {was t : List Step} {len place : ℕ} (l : Listed k n m w
         long = omega (arith, ap length list_is, length-sets was 0 (count_from len 0));
         room = omega (arith, len_is, room_all k place a b (omega (arith, y.within)));
         before = omega (arith, len_is, y.below);
-        positive = top-positive a c;
+        positive = top_positive a c;
         value = refl;
         shift = omega (arith, y.within);
       }

@@ -45,11 +45,11 @@ module _ {width value from at : ℕ} {was : List Step} {i : ℕ} {t : List Step}
   value_is : (v + v) * 2 ^ (width - (i + 1)) ≡ value * 2 ^ width
   value_is = sym (double_value v (width - (i + 1))) ∙ ap (λ (x : ℕ). v * 2 ^ x) (sym left_is) ∙ g.whole
 
-  pub twice-fits : value * 2 ^ width < 2 ^ 63 → v + v < 2 ^ 63
-  twice-fits h = omega (arith, value_is, at_most_times (v + v) (width - (i + 1)))
+  pub twice_fits : value * 2 ^ width < 2 ^ 63 → v + v < 2 ^ 63
+  twice_fits h = omega (arith, value_is, at_most_times (v + v) (width - (i + 1)))
 
-  pub doubling-low : (t1 : List Step) (len1 s1 : ℕ) → t1 ≡ t → len1 ≡ len → s1 ≡ v + v - 1 → v + v < 2 ^ width → 2 ^ width ≤ 32 → Doubling width value from at was (i + 1) t1 len1 s1 (v + v)
-  doubling-low t1 len1 s1 et el es h b =
+  pub doubling_low : (t1 : List Step) (len1 s1 : ℕ) → t1 ≡ t → len1 ≡ len → s1 ≡ v + v - 1 → v + v < 2 ^ width → 2 ^ width ≤ 32 → Doubling width value from at was (i + 1) t1 len1 s1 (v + v)
+  doubling_low t1 len1 s1 et el es h b =
       let d : doubles (2 ^ width) (width - i) len source v ≡ doubles (2 ^ width) (width - (i + 1)) len (v + v - 1) (v + v) =
       ap (λ (x : ℕ). doubles (2 ^ width) x len source v) left_is ∙ doubles_low (2 ^ width) (width - (i + 1)) len source v h in
       rw (et, el, es)
@@ -62,8 +62,8 @@ module _ {width value from at : ℕ} {was : List Step} {i : ℕ} {t : List Step}
         whole = value_is;
       }
 
-  pub doubling-high : (t1 : List Step) (len1 s1 : ℕ) → t1 ≡ set t len (step source source (v + v)) → len1 ≡ len + 1 → s1 ≡ len + 1 → 2 ^ width ≤ v + v → Doubling width value from at was (i + 1) t1 len1 s1 (v + v)
-  doubling-high t1 len1 s1 et el es h =
+  pub doubling_high : (t1 : List Step) (len1 s1 : ℕ) → t1 ≡ set t len (step source source (v + v)) → len1 ≡ len + 1 → s1 ≡ len + 1 → 2 ^ width ≤ v + v → Doubling width value from at was (i + 1) t1 len1 s1 (v + v)
+  doubling_high t1 len1 s1 et el es h =
       let x : Step = step source source (v + v) in
       let rest : List Step = doubles (2 ^ width) (width - (i + 1)) (len + 1) (len + 1) (v + v) in
       let d : doubles (2 ^ width) (width - i) len source v ≡ x ∷ rest =

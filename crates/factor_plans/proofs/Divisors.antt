@@ -49,23 +49,23 @@ least_none n h = let t : ltb 1 n ≡ false = le-ltb _ _ (omega arith) in rw t re
 
 -- n = p·q with its smallest divisor p
 module _ (n p : ℕ) (pos : 1 ≤ n) (a : Least n p) where
-  pub divisor-le : p ≤ n
-  divisor-le = ⊎_elim (λ (l : n < p). omega (arith, mod-eq_of_lt l, a.divides)) (λ (l : p ≤ n). l) (cases_lt n p)
+  pub divisor_le : p ≤ n
+  divisor_le = ⊎_elim (λ (l : n < p). omega (arith, mod-eq_of_lt l, a.divides)) (λ (l : p ≤ n). l) (cases_lt n p)
 
-  pub divisor-times : p * (n / p) ≡ n
-  divisor-times = mul_comm p (n / p) ∙ omega (arith, div-add-mod' n p, a.divides)
+  pub divisor_times : p * (n / p) ≡ n
+  divisor_times = mul_comm p (n / p) ∙ omega (arith, div-add-mod' n p, a.divides)
 
-  pub quotient-low : 1 ≤ n / p
-  quotient-low =
+  pub quotient_low : 1 ≤ n / p
+  quotient_low =
       ⊎_elim
-      (λ (l : n / p < 1). let z : n / p ≡ 0 = omega arith in let w : p * 0 ≡ n = subst (λ (x : ℕ). p * x ≡ n) z divisor-times in omega arith)
+      (λ (l : n / p < 1). let z : n / p ≡ 0 = omega arith in let w : p * 0 ≡ n = subst (λ (x : ℕ). p * x ≡ n) z divisor_times in omega arith)
       (λ (l : 1 ≤ n / p). l)
       (cases_lt (n / p) 1)
 
-  pub quotient-less : n / p < n
-  quotient-less =
+  pub quotient_less : n / p < n
+  quotient_less =
       let w : 2 * (n / p) ≤ p * (n / p) = mul-le-mul {n₁ = 2} a.above (omega arith) in
-      omega (arith, divisor-times, quotient-low)
+      omega (arith, divisor_times, quotient_low)
 
 pub quotient_is : (n p q : ℕ) → Least n p → n ≡ p * q → n / p ≡ q
 quotient_is n p q a e = div-eq_of_eq-mul_right {n = p} (omega (arith, a.above)) e

@@ -11,7 +11,7 @@ use Rattle.bits.proofs.Tops.{top_low, top_max}
 use Rattle.planning.proofs.Powers.{top_below, top_mono, top_product}
 use Rattle.factor_plans.specs.Divisors.{Least, least_divisor}
 use Rattle.factor_plans.specs.Factor.{shifted, and_one, followed, factor_body, factor_with, factor_plan, FactorRule}
-use Rattle.factor_plans.proofs.Divisors.{divisor_least, least_same, divisor-le, divisor-times, quotient-low, quotient-less, quotient_is}
+use Rattle.factor_plans.proofs.Divisors.{divisor_least, least_same, divisor_le, divisor_times, quotient_low, quotient_less, quotient_is}
 
 -- ---- the rule
 
@@ -38,10 +38,10 @@ body_same f g n p least same =
     (λ (e : p ≡ n). body_prime f n p h e ∙ ap (λ (s : List Step). and_one s n) (same (n - 1) (omega arith)) ∙ sym (body_prime g n p h e))
     (λ (e : p ≡ n → ⊥).
     let pos : 1 ≤ n = omega arith in
-    let l : p < n = omega (arith, divisor-le n p pos (least h)) in
+    let l : p < n = omega (arith, divisor_le n p pos (least h)) in
     body_split f n p h e
     ∙ ap (λ (s : List Step). followed s p (f (n / p))) (same p l)
-    ∙ ap (λ (s : List Step). followed (g p) p s) (same (n / p) (quotient-less n p pos (least h)))
+    ∙ ap (λ (s : List Step). followed (g p) p s) (same (n / p) (quotient_less n p pos (least h)))
     ∙ sym (body_split g n p h e))
     (cases_eq p n))
     (cases_lt n 2)
@@ -115,8 +115,8 @@ prime_short n a b i =
 split_short : (n p : ℕ) → Least n p → p < n → n < 2 ^ 64 → Short p → Short (n / p) → Short n
 split_short n p a l b i j =
     let pos : 1 ≤ n = omega arith in
-    let times = divisor-times n p pos a in
-    let t : top p + top (n / p) ≤ top (p * (n / p)) = top_product p (n / p) (omega (arith, a.above)) (quotient-low n p pos a) (omega arith) in
+    let times = divisor_times n p pos a in
+    let t : top p + top (n / p) ≤ top (p * (n / p)) = top_product p (n / p) (omega (arith, a.above)) (quotient_low n p pos a) (omega arith) in
     let u : top (p * (n / p)) ≡ top n = ap top times in
     let g = split_length n p a l in
     (omega (arith, i.0, j.0), λ z. omega (arith, i.1 (omega (arith, even_least n p a z)), j.0))
@@ -129,12 +129,12 @@ factor_short (suc f) n h l b =
     (λ (s : 2 ≤ n).
     let p : ℕ = least_divisor n in
     let a = divisor_least n s in
-    let ql = quotient-less n p l a in
+    let ql = quotient_less n p l a in
     ⊎_elim
     (λ (e : p ≡ n). prime_short n (subst (Least n) e a) b (factor_short f (n - 1) (omega arith) (omega arith) (omega arith)))
     (λ (e : p ≡ n → ⊥).
-    let le = divisor-le n p l a in
-    split_short n p a (omega arith) b (factor_short f p (omega arith) (omega (arith, a.above)) (omega arith)) (factor_short f (n / p) (omega arith) (quotient-low n p l a) (omega arith)))
+    let le = divisor_le n p l a in
+    split_short n p a (omega arith) b (factor_short f p (omega arith) (omega (arith, a.above)) (omega arith)) (factor_short f (n / p) (omega arith) (quotient_low n p l a) (omega arith)))
     (cases_eq p n))
     (cases_lt n 2)
 
@@ -232,16 +232,16 @@ pub record SplitCall (n p scale : ℕ) : Type 0 where
 
 pub split_call : (n p scale : ℕ) → 1 ≤ n → Least n p → (p ≡ n → ⊥) → SplitCall n p scale
 split_call n p scale pos a ne =
-    let le = divisor-le n p pos a in
+    let le = divisor_le n p pos a in
     let l : p < n = omega arith in
     let first : p * scale ≤ n * scale = mul-le-mul le (omega arith) in
     record {
       least = a;
       less = l;
-      low = quotient-low n p pos a;
-      quotient = quotient-less n p pos a;
+      low = quotient_low n p pos a;
+      quotient = quotient_less n p pos a;
       count = split_length n p a l;
       first = first;
-      second = mul_comm (n / p) (scale * p) ∙ mul_assoc scale p (n / p) ∙ ap (λ (x : ℕ). scale * x) (divisor-times n p pos a) ∙ mul_comm scale n;
+      second = mul_comm (n / p) (scale * p) ∙ mul_assoc scale p (n / p) ∙ ap (λ (x : ℕ). scale * x) (divisor_times n p pos a) ∙ mul_comm scale n;
       scaled = omega (arith, mul_comm scale p);
     }

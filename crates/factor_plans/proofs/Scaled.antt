@@ -12,7 +12,7 @@ use Rattle.planning.proofs.Growing.{Grows, last_value, value_append, fits_under,
 use Rattle.planning.proofs.Pushing.{Ends, chain_from_ends}
 use Rattle.factor_plans.specs.Divisors.{Least, least_divisor}
 use Rattle.factor_plans.specs.Factor.{shifted, followed, factor_plan}
-use Rattle.factor_plans.proofs.Divisors.{divisor_least, divisor-le, divisor-times, quotient-low, quotient-less}
+use Rattle.factor_plans.proofs.Divisors.{divisor_least, divisor_le, divisor_times, quotient_low, quotient_less}
 use Rattle.factor_plans.proofs.Factors.{factor_none, factor_prime, factor_split, factor_room}
 
 -- a larger limit
@@ -37,8 +37,8 @@ module _ (a b : List Step) (p q : ℕ) (pos : 1 ≤ p) (ends : last_value a ≡ 
   length_all : length all ≡ length a + length b
   length_all = length-append a (map (shifted (length a) p) b) ∙ ap (λ (x : ℕ). length a + x) (length-map b (shifted (length a) p))
 
-  pub last-scaled : last_value all ≡ last_value b * p
-  last-scaled = ap (value_at all) length_all ∙ value_past (length b) (omega arith)
+  pub last_scaled : last_value all ≡ last_value b * p
+  last_scaled = ap (value_at all) length_all ∙ value_past (length b) (omega arith)
 
   fits_scaled : (m : ℕ) (x : Step) → m < length b → Fits q (value_at b) m x → Fits (q * p) (value_at all) (length a + m) (shifted (length a) p x)
   fits_scaled m x h f =
@@ -54,8 +54,8 @@ module _ (a b : List Step) (p q : ℕ) (pos : 1 ≤ p) (ends : last_value a ≡ 
         within = mul-le-mul f.within (omega arith);
       }
 
-  pub grows-scaled : p ≤ q * p → Grows p a → Grows q b → Grows (q * p) all
-  grows-scaled wide ga gb i h =
+  pub grows_scaled : p ≤ q * p → Grows p a → Grows q b → Grows (q * p) all
+  grows_scaled wide ga gb i h =
       ⊎_elim
       (λ (l : i < length a).
       subst (Fits (q * p) (value_at all) i) (sym (get_or-append a (map (shifted (length a) p) b) no_step i l))
@@ -84,9 +84,9 @@ split_ends : (n p : ℕ) → Least n p → p < n → Ends p (factor_plan p) → 
 split_ends n p a l r s =
     let q : ℕ = n / p in
     let low : 1 ≤ p = omega (arith, a.above) in
-    let k : q * p ≡ n = mul_comm q p ∙ divisor-times n p (omega arith) a in
-    let g = grows-scaled (factor_plan p) (factor_plan q) p q low r.last (omega arith) r.grows s.grows in
-    let v = last-scaled (factor_plan p) (factor_plan q) p q low r.last in
+    let k : q * p ≡ n = mul_comm q p ∙ divisor_times n p (omega arith) a in
+    let g = grows_scaled (factor_plan p) (factor_plan q) p q low r.last (omega arith) r.grows s.grows in
+    let v = last_scaled (factor_plan p) (factor_plan q) p q low r.last in
     subst (Ends n) (sym (factor_split n p a l))
     (record { grows = subst (λ (y : ℕ). Grows y (followed (factor_plan p) p (factor_plan q))) k g; last = v ∙ ap (λ (y : ℕ). y * p) s.last ∙ k })
 
@@ -100,12 +100,12 @@ factor_ends (suc f) n h l =
     (λ (s : 2 ≤ n).
     let p : ℕ = least_divisor n in
     let a = divisor_least n s in
-    let ql = quotient-less n p l a in
+    let ql = quotient_less n p l a in
     ⊎_elim
     (λ (e : p ≡ n). prime_ends n (subst (Least n) e a) (factor_ends f (n - 1) (omega arith) (omega arith)))
     (λ (e : p ≡ n → ⊥).
-    let le = divisor-le n p l a in
-    split_ends n p a (omega arith) (factor_ends f p (omega arith) (omega (arith, a.above))) (factor_ends f (n / p) (omega arith) (quotient-low n p l a)))
+    let le = divisor_le n p l a in
+    split_ends n p a (omega arith) (factor_ends f p (omega arith) (omega (arith, a.above))) (factor_ends f (n / p) (omega arith) (quotient_low n p l a)))
     (cases_eq p n))
     (cases_lt n 2)
 

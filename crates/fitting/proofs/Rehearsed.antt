@@ -88,9 +88,9 @@ module _ (n : ℕ) (steps : List Step) (chain : Chain n steps) where
     pub few : len ≤ 128
     few = let b = chain.short in omega (arith, len_is)
 
-    pub sums-small : (start : ℕ) → start ≡ 0 → (i : ℕ) → get_or (sums (one_in 32 start) (take len rows)) i 0 < 2 ^ 63
-    sums-small start h i = subst (λ (z : List ℕ). get_or z i 0 < 2 ^ 63) (sym (sums_are start h)) (values_small i)
+    pub sums_small : (start : ℕ) → start ≡ 0 → (i : ℕ) → get_or (sums (one_in 32 start) (take len rows)) i 0 < 2 ^ 63
+    sums_small start h i = subst (λ (z : List ℕ). get_or z i 0 < 2 ^ 63) (sym (sums_are start h)) (values_small i)
 
-    pub front-is : (start : ℕ) → start ≡ 0 → (was : List ℕ) → sums (one_in 32 start) (take len rows) ++ drop len was ≡ map (λ x. x.value) steps ++ drop (length steps) was
-    front-is start h was =
+    pub front_is : (start : ℕ) → start ≡ 0 → (was : List ℕ) → sums (one_in 32 start) (take len rows) ++ drop len was ≡ map (λ x. x.value) steps ++ drop (length steps) was
+    front_is start h was =
         ap (λ (z : List ℕ). z ++ drop len was) (sums_are start h) ∙ ap (λ (z : ℕ). map (λ x. x.value) steps ++ drop z was) len_is

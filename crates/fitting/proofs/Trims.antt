@@ -13,7 +13,7 @@ use Rattle.placing.specs.Supply.{supplied_cells}
 use Rattle.placing.specs.Answer.{place_fault}
 use Rattle.placing.proofs.Supply.{supplied_cells_lem, front_supplied}
 use Rattle.trimming.specs.Trim.{trimmed, trim_answer}
-use Rattle.trimming.proofs.Again.{trimmed-chain}
+use Rattle.trimming.proofs.Again.{trimmed_chain}
 use Rattle.kinds.specs.Kinds.{Meaning}
 use Rattle.kinds.specs.Powers.{power}
 use Rattle.units.specs.Units.{State}
@@ -27,25 +27,25 @@ module _ (n : ℕ) (s : List Step) (chain : Chain n s) where
   -- there is always room for the trimmed steps
   trims : (room : ℕ) → room ≡ 128 → trim_answer s room ≡ Ok (length (trimmed s))
   trims room r =
-      let short : length (trimmed s) ≤ 128 = (trimmed-chain n s chain).short in
+      let short : length (trimmed s) ≤ 128 = (trimmed_chain n s chain).short in
       let fits : leb (length (trimmed s)) room ≡ true = le-leb (length (trimmed s)) room (omega arith) in
       ap (λ (b : Bool). cond b (Ok (length (trimmed s))) (Err (TableShort (length (trimmed s))))) fits
 
-  pub trim-never : {X : Type 0} (room : ℕ) (e : Refusal) → room ≡ 128 → Err e ≡ trim_answer s room → X
-  trim-never room e r h = not_both (length (trimmed s)) e (sym (h ∙ trims room r))
+  pub trim_never : {X : Type 0} (room : ℕ) (e : Refusal) → room ≡ 128 → Err e ≡ trim_answer s room → X
+  trim_never room e r h = not_both (length (trimmed s)) e (sym (h ∙ trims room r))
 
-  pub trim-length : (room k : ℕ) → room ≡ 128 → Ok k ≡ trim_answer s room → k ≡ length (trimmed s)
-  trim-length room k r h = let both : Ok k ≡ Ok (length (trimmed s)) = h ∙ trims room r in cc
+  pub trim_length : (room k : ℕ) → room ≡ 128 → Ok k ≡ trim_answer s room → k ≡ length (trimmed s)
+  trim_length room k r h = let both : Ok k ≡ Ok (length (trimmed s)) = h ∙ trims room r in cc
 
   -- they stand in front
-  pub front-is : (k : ℕ) (was new : List Step) → k ≡ length (trimmed s) → new ≡ trimmed s ++ drop (length (trimmed s)) was → take (k - 0) new ≡ trimmed s
-  front-is k was new e h =
+  pub front_is : (k : ℕ) (was new : List Step) → k ≡ length (trimmed s) → new ≡ trimmed s ++ drop (length (trimmed s)) was → take (k - 0) new ≡ trimmed s
+  front_is k was new e h =
       ap (λ (z : ℕ). take z new) (sub-zero k ∙ e) ∙ ap (take (length (trimmed s))) h ∙ take-append_seam (trimmed s) (drop (length (trimmed s)) was)
 
   -- they are always admitted
-  pub admit-never : {X : Type 0} (k : ℕ) (part : List Step) (e : Refusal) → k ≡ n → part ≡ trimmed s → Decides (is_ok {T = Unit {0}} (Err e)) (Chain k part) → X
-  admit-never k part e p q h =
-      let c : Chain k part = subst (λ (z : List Step). Chain k z) (sym q) (subst (λ (z : ℕ). Chain z (trimmed s)) (sym p) (trimmed-chain n s chain)) in
+  pub admit_never : {X : Type 0} (k : ℕ) (part : List Step) (e : Refusal) → k ≡ n → part ≡ trimmed s → Decides (is_ok {T = Unit {0}} (Err e)) (Chain k part) → X
+  admit_never k part e p q h =
+      let c : Chain k part = subst (λ (z : List Step). Chain k z) (sym q) (subst (λ (z : ℕ). Chain z (trimmed s)) (sym p) (trimmed_chain n s chain)) in
       let no : false ≡ true = h.1 c in
       absurd (let z : ◌≡◌ {A = ℕ} 0 1 = cc in omega arith)
 
@@ -71,8 +71,8 @@ module _ (s p : List Step) (is : p ≡ trimmed s) where
   rehearsed was new h = h ∙ ap (λ (z : List Step). rehearsed_in z was) is
 
   module _ {V : Type 0} (m : Meaning V) (u : State V) (n : ℕ) (x : V) where
-    pub not-rehearsed : (e : Refusal) → rehearsal_fault p ≡ Some e → Err e ≡ fit_answer m u n s x
-    not-rehearsed e h =
+    pub not_rehearsed : (e : Refusal) → rehearsal_fault p ≡ Some e → Err e ≡ fit_answer m u n s x
+    not_rehearsed e h =
         answer_err (fit_fault m u s x) e (found m u n s x)
         (ap (λ (z : Option Refusal). first z (run_fault m u (trimmed s) x)) (sym (ap rehearsal_fault is) ∙ h))
 
@@ -81,8 +81,8 @@ module _ (s p : List Step) (is : p ≡ trimmed s) where
         ap (λ (z : Option Refusal). first z (run_fault m u (trimmed s) x)) (sym (ap rehearsal_fault is) ∙ h)
         ∙ ap (λ (z : List Step). run_fault m u z x) (sym is)
 
-    pub not-run : (e : Refusal) → rehearsal_fault p ≡ None → run_fault m u p x ≡ Some e → Err e ≡ fit_answer m u n s x
-    not-run e h k = answer_err (fit_fault m u s x) e (found m u n s x) (fault_is h ∙ k)
+    pub not_run : (e : Refusal) → rehearsal_fault p ≡ None → run_fault m u p x ≡ Some e → Err e ≡ fit_answer m u n s x
+    not_run e h k = answer_err (fit_fault m u s x) e (found m u n s x) (fault_is h ∙ k)
 
     pub fits : (a b : Size) (y : V) (l : ℕ) → rehearsal_fault p ≡ None → run_fault m u p x ≡ None
         → a ≡ size_of s → b ≡ size_of p → y ≡ power m x n → l ≡ u.left - length p
@@ -99,5 +99,5 @@ module _ (s p : List Step) (is : p ≡ trimmed s) where
     unit_kept r e t h k = subst (λ (z : Result (Fitted V) Refusal). FitsUnit m u n s x z t) (sym h) k
 
     -- the card is as the run leaves it
-    pub unit-run : (k : ℕ) (y : V) (t : State V) → k ≡ n → Lawful m u k p x y t → Lawful m u n (trimmed s) x y t
-    unit-run k y t h l = subst (λ (z : List Step). Lawful m u n z x y t) is (subst (λ (z : ℕ). Lawful m u z p x y t) h l)
+    pub unit_run : (k : ℕ) (y : V) (t : State V) → k ≡ n → Lawful m u k p x y t → Lawful m u n (trimmed s) x y t
+    unit_run k y t h l = subst (λ (z : List Step). Lawful m u n z x y t) is (subst (λ (z : ℕ). Lawful m u z p x y t) h l)

@@ -26,21 +26,21 @@ module _ (rows : List Record) (len : ℕ) (fits : len ≤ length rows) where
   all_long = simp length-take (omega arith)
 
   -- there is a record of each number up to their count
-  pub is-there : (i : ℕ) → i < len → Some (get_or rows i no_record) ≡ numbered (take len rows) (i + 1)
-  is-there i h =
+  pub is_there : (i : ℕ) → i < len → Some (get_or rows i no_record) ≡ numbered (take len rows) (i + 1)
+  is_there i h =
       let e : i + 1 - 1 ≡ i = omega arith in
       ap (λ (z : ℕ). Some (get_or rows z no_record)) (sym e) ∙ at_number rows len (i + 1) no_record (λ z. omega arith) (omega arith) fits
 
-  pub none-missing : {X : Type 0} (i : ℕ) → i < len → None ≡ numbered (take len rows) (i + 1) → X
-  none-missing i h e =
-      let d = is-there i h in
+  pub none_missing : {X : Type 0} (i : ℕ) → i < len → None ≡ numbered (take len rows) (i + 1) → X
+  none_missing i h e =
+      let d = is_there i h in
       absurd (let z : ◌≡◌ {A = ℕ} 0 1 = cc in omega arith)
 
   -- the record of the number i + 1 stands first among those that are left
   next_is : (i : ℕ) (r : Record) → i < len → Some r ≡ numbered (take len rows) (i + 1) → drop i (take len rows) ≡ r ∷ drop (i + 1) (take len rows)
   next_is i r h e =
       let k : i < length (take len rows) = omega (arith, all_long) in
-      let d = is-there i h in
+      let d = is_there i h in
       let same : get_or rows i no_record ≡ r = cc in
       drop-cons (take len rows) i no_record k
       ∙ ap (λ (z : Record). z ∷ drop (suc i) (take len rows)) (get_or-take len rows i no_record h ∙ same)
@@ -55,18 +55,18 @@ module _ (rows : List Record) (len : ℕ) (fits : len ≤ length rows) where
     cells' = set cells r.to sum
 
     before : whole ≡ take i out ++ (sum ∷ sums cells' (drop (i + 1) (take len rows)))
-    before = w.sums-are ∙ ap (λ (z : List Record). take i out ++ sums cells z) (next_is i r h is)
+    before = w.sums_are ∙ ap (λ (z : List Record). take i out ++ sums cells z) (next_is i r h is)
 
     -- its sum is one of the whole
-    pub sum-at : get_or whole i 0 ≡ sum
-    sum-at =
+    pub sum_at : get_or whole i 0 ≡ sum
+    sum_at =
         let long : length (take i out) ≡ i = simp length-take (omega arith) in
         ap (λ (z : List ℕ). get_or z i 0) before
         ∙ ap (λ (z : ℕ). get_or (take i out ++ (sum ∷ sums cells' (drop (i + 1) (take len rows)))) z 0) (sym long)
         ∙ get_or-append_seam (take i out) sum (sums cells' (drop (i + 1) (take len rows))) 0
 
-    pub worked-one : Worked whole (take len rows) was (set out i sum) cells' (i + 1)
-    worked-one =
+    pub worked_one : Worked whole (take len rows) was (set out i sum) cells' (i + 1)
+    worked_one =
         let front : take (i + 1) (set out i sum) ≡ take i out ++ (sum ∷ []) = rw add-one (take-suc-set out i sum room) in
         let lt : i < i + 1 = omega arith in
         record {
@@ -75,8 +75,8 @@ module _ (rows : List Record) (len : ℕ) (fits : len ≤ length rows) where
         }
 
   -- all records are worked
-  pub worked-all : (whole was out cells : List ℕ) (i : ℕ) → len ≤ i → i ≤ len → Worked whole (take len rows) was out cells i → out ≡ whole ++ drop len was
-  worked-all whole was out cells i h k w =
+  pub worked_all : (whole was out cells : List ℕ) (i : ℕ) → len ≤ i → i ≤ len → Worked whole (take len rows) was out cells i → out ≡ whole ++ drop len was
+  worked_all whole was out cells i h k w =
       let e : i ≡ len = omega arith in
       let v : Worked whole (take len rows) was out cells len = subst (λ (z : ℕ). Worked whole (take len rows) was out cells z) e w in
       let none : drop len (take len rows) ≡ [] = ap (λ (z : ℕ). drop z (take len rows)) (sym all_long) ∙ drop-length (take len rows) in

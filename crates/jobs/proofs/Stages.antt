@@ -67,13 +67,13 @@ module _ (sheet : Result (List Step) Refusal) (n : ℕ) (a : Result ℕ Refusal)
   unread : (f : Refusal) × (sheet ≡ Err f) × (e ≡ record { stage = Reading; refusal = f })
   unread = let f = staged_err Reading a e stopped in (f.0, counted_err sheet f.0 (sym said ∙ f.1), f.2)
 
-  pub unread-answer : {Y : Type 0} (work : List Step → Result Y Refusal) → Err e ≡ through_stages sheet n work
-  unread-answer {Y} work =
+  pub unread_answer : {Y : Type 0} (work : List Step → Result Y Refusal) → Err e ≡ through_stages sheet n work
+  unread_answer {Y} work =
       let own : JobRefusal → Result Y JobRefusal = λ d. Err d in
       ap own unread.2 ∙ sym (ap (λ (r : Result (List Step) Refusal). through_stages r n work) unread.1)
 
-  pub unread-after : (P : Type 0) (Q : List Step → Type 0) → P → MatchOption (job_plan sheet n) P Q
-  unread-after P Q h =
+  pub unread_after : (P : Type 0) (Q : List Step → Type 0) → P → MatchOption (job_plan sheet n) P Q
+  unread_after P Q h =
       subst (λ (p : Option (List Step)). MatchOption p P Q) (sym (ap (λ (r : Result (List Step) Refusal). job_plan r n) unread.1)) h
 
 -- the steps are read, and admission answered v
@@ -88,25 +88,25 @@ module _ (sheet : Result (List Step) Refusal) (n : ℕ) (steps : List Step) (is 
 
   -- admission refused: no plan comes to the third stage
   module _ (e : JobRefusal) (stopped : Err e ≡ staged Admission v) where
-    pub stopped-answer : {Y : Type 0} (work : List Step → Result Y Refusal) → Err e ≡ through_stages sheet n work
-    stopped-answer {Y} work =
+    pub stopped_answer : {Y : Type 0} (work : List Step → Result Y Refusal) → Err e ≡ through_stages sheet n work
+    stopped_answer {Y} work =
         let f = staged_err Admission v e stopped in
         let own : JobRefusal → Result Y JobRefusal = λ d. Err d in
         ap own f.2 ∙ sym (answer_is work ∙ ap (λ (w : Result (Unit {0}) Refusal). and_then (staged Admission w) (λ _. staged Running (work steps))) f.1)
 
-    pub stopped-after : (P : Type 0) (Q : List Step → Type 0) → P → MatchOption (job_plan sheet n) P Q
-    stopped-after P Q h =
+    pub stopped_after : (P : Type 0) (Q : List Step → Type 0) → P → MatchOption (job_plan sheet n) P Q
+    stopped_after P Q h =
         subst (λ (p : Option (List Step)). MatchOption p P Q) (sym (plan_is ∙ ap (λ (w : Result (Unit {0}) Refusal). if_admitted w steps) (staged_err Admission v e stopped).1)) h
 
   -- admission passed: the plan comes to the third stage, which answered r
   module _ (u : Unit {0}) (passed : Ok u ≡ staged Admission v) where
-    pub worked-answer : {Y : Type 0} (work : List Step → Result Y Refusal) (r : Result Y Refusal) (w : Result Y JobRefusal) → r ≡ work steps → w ≡ staged Running r → w ≡ through_stages sheet n work
-    worked-answer work r w did told =
+    pub worked_answer : {Y : Type 0} (work : List Step → Result Y Refusal) (r : Result Y Refusal) (w : Result Y JobRefusal) → r ≡ work steps → w ≡ staged Running r → w ≡ through_stages sheet n work
+    worked_answer work r w did told =
         told ∙ ap (staged Running) did
         ∙ sym (answer_is work ∙ ap (λ (z : Result (Unit {0}) Refusal). and_then (staged Admission z) (λ _. staged Running (work steps))) (staged_ok Admission v u passed))
 
-    pub worked-after : (P : Type 0) (Q : List Step → Type 0) → Q steps → MatchOption (job_plan sheet n) P Q
-    worked-after P Q h =
+    pub worked_after : (P : Type 0) (Q : List Step → Type 0) → Q steps → MatchOption (job_plan sheet n) P Q
+    worked_after P Q h =
         subst (λ (p : Option (List Step)). MatchOption p P Q) (sym (plan_is ∙ ap (λ (w : Result (Unit {0}) Refusal). if_admitted w steps) (staged_ok Admission v u passed))) h
 
 -- what a refused run kept, a refused job kept

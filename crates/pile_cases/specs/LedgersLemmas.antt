@@ -31,28 +31,28 @@ made_empty {V} size left allowance few e =
     rw (f, e)
 
 module _ {V : Type 0} (places : List (Option V)) (size left : ℕ) (rows : List Record) (stored : ℕ) (fits : size ≤ length places) where
-  pub cells-counted : length (take size places) ≡ size
-  cells-counted = length-take-le size places fits
+  pub cells_counted : length (take size places) ≡ size
+  cells_counted = length-take-le size places fits
 
   pub inside : (c : ℕ) → c < length (take size places) → c < size
-  inside c h = let e = cells-counted in omega arith
+  inside c h = let e = cells_counted in omega arith
 
   pub reads : (c : ℕ) → c < size → content (slice_index_or places c None) c ≡ reading (ledgered places size left rows stored) c
   reads c h =
-      let e = cells-counted in
+      let e = cells_counted in
       let k : c < length (take size places) = omega arith in
       let p = lt-ltb c (length (take size places)) k in
       let q = get_or-take size places c None h in
       simp (p, q)
 
-  pub loaded-here : (c : ℕ) (v : V) → c < size → ledgered (slice_set places c (Some v)) size left rows stored ≡ loaded (ledgered places size left rows stored) c v
-  loaded-here c v h =
+  pub loaded_here : (c : ℕ) (v : V) → c < size → ledgered (slice_set places c (Some v)) size left rows stored ≡ loaded (ledgered places size left rows stored) c v
+  loaded_here c v h =
       ap (λ (cells : List (Option V)). record { cells = cells; left = left; log = Some (take stored rows) }) (take-set-lt size places c (Some v) h)
 
-  pub multiplied-here : (m : Meaning V) (to a b : ℕ) → to < size → a < size → b < size → stored < length rows →
+  pub multiplied_here : (m : Meaning V) (to a b : ℕ) → to < size → a < size → b < size → stored < length rows →
       ledgered (slice_set places to (both m.times (slice_index_or places a None) (slice_index_or places b None))) size (left - 1) (slice_set rows stored (record { to = to; a = a; b = b })) (stored + 1)
       ≡ multiplied m (ledgered places size left rows stored) to a b
-  multiplied-here m to a b h j k within =
+  multiplied_here m to a b h j k within =
       let r : Record = record { to = to; a = a; b = b } in
       let x = get_or-take size places a None j in
       let y = get_or-take size places b None k in

@@ -37,9 +37,9 @@ fn held(places: &[Option<Count>], i: usize) -> Option<Count>
 
 // The product of two places, if both hold a value.
 fn product<K: Kind>(rule: &K, x: Option<K::Value>, y: Option<K::Value>) -> Option<K::Value>
-    requires left { Native (kind rule.now) x }
-    requires right { Native (kind rule.now) y }
-    ensures { result ≡ both (kind rule.now).times x y }
+    requires left { Native (K.kind rule.now) x }
+    requires right { Native (K.kind rule.now) y }
+    ensures { result ≡ both (K.kind rule.now).times x y }
 {
     rule.product(x?, y?)
 }
@@ -83,9 +83,9 @@ impl Kind for Ledger {
 
     ghost kind = { λ _. counting };
 
-    ghost closed = { first_of (Prim.search rules, Prim.grind (arith, Self.row.coded.inj)) };
+    ghost closed = { Prim.search rules };
 
-    ghost assoc = { first_of (Prim.search rules, Prim.grind (arith, Self.row.coded.inj)) };
+    ghost assoc = { Prim.search rules };
 
     fn is_native(&self, v: Count) -> bool {
         self.rule.is_native(v)
@@ -99,7 +99,7 @@ impl Kind for Ledger {
 impl Unit for Ledger {
     ghost state = { λ u. ledgered u.places u.size u.left u.rows u.stored };
 
-    ghost few = { first_of (Prim.search rules, Prim.grind (arith, Self.row.coded.inj)) };
+    ghost few = { Prim.search rules };
 
     ghost native = { λ u. native_take counting u.size u.places u.native };
 

@@ -9,7 +9,7 @@ use Rattle.placing.specs.Last.{LastOf}
 use Rattle.placing.proofs.Held.{held_before}
 use Rattle.placing.proofs.Pigeon.{count_le}
 use Rattle.placing.proofs.Crowds.{most_ge, fits_only, Taken, crowd}
-use Rattle.placing.proofs.Supply.{lowest-one, first_length, supplied_cells_lem}
+use Rattle.placing.proofs.Supply.{lowest_one, first_length, supplied_cells_lem}
 use Rattle.placing.proofs.Lasts.{held_lasts, lasts_held}
 
 -- cell x is kept until step `until x`: from s on, exactly as long as a value below s that has it is held
@@ -99,7 +99,7 @@ filled_more steps s table until top x n hs small l all free f =
     let size : length cells ≡ s = first_length steps s in
     let room : x < length until = omega (arith, f.wide, count_le (held steps s) s) in
     let next : cells ++ (x ∷ []) ≡ first_cells steps (s + 1) =
-    ap (λ y. cells ++ (y ∷ [])) (sym (lowest-one steps cells s x kept (keeps_free steps s cells until x f.keeps free))) ∙ ap (first_cells steps) (sym (add-one s)) in
+    ap (λ y. cells ++ (y ∷ [])) (sym (lowest_one steps cells s x kept (keeps_free steps s cells until x f.keeps free))) ∙ ap (first_cells steps) (sym (add-one s)) in
     record {
       long = length-set table s x ∙ f.long;
       wide = length-set until x n ∙ f.wide;

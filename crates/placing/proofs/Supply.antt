@@ -50,42 +50,42 @@ module _ (steps : List Step) (cells : List ℕ) (s : ℕ) where
       lt-ltb _ _ (omega (arith, count_less has t.0 s t.1 e))
 
   -- the lowest cell that is not taken
-  abbrev pub lowestFree : ℕ
-  lowestFree = lowest (taken steps cells s) s
+  abbrev pub lowest_free : ℕ
+  lowest_free = lowest (taken steps cells s) s
 
-  pub below-taken : (y : ℕ) → y < lowestFree → Taken steps cells s y
-  below-taken y h = taken_true y ((lowest_is (taken steps cells s) s).passed y h)
+  pub below_taken : (y : ℕ) → y < lowest_free → Taken steps cells s y
+  below_taken y h = taken_true y ((lowest_is (taken steps cells s) s).passed y h)
 
-  pub lowest-free : Taken steps cells s lowestFree → ⊥
-  lowest-free t =
-      elim (cases_lt lowestFree s) [
+  pub lowest_free_lem : Taken steps cells s lowest_free → ⊥
+  lowest_free_lem t =
+      elim (cases_lt lowest_free s) [
         | inl h ↦ both_ways _ ((lowest_is (taken steps cells s) s).fails h) (true_taken _ t)
         | inr h ↦
-            let all : (y : ℕ) → y < suc lowestFree → Taken steps cells s y =
-            λ y l. elim (cases_eq y lowestFree) [ inl e ↦ subst (Taken steps cells s) (sym e) t | inr ne ↦ below-taken y (omega arith) ] in
-            omega (arith, crowd steps cells s (suc lowestFree) all, count_le (held steps s) s)
+            let all : (y : ℕ) → y < suc lowest_free → Taken steps cells s y =
+            λ y l. elim (cases_eq y lowest_free) [ inl e ↦ subst (Taken steps cells s) (sym e) t | inr ne ↦ below_taken y (omega arith) ] in
+            omega (arith, crowd steps cells s (suc lowest_free) all, count_le (held steps s) s)
       ]
 
-  pub lowest-live : lowestFree < live steps s
-  lowest-live = omega (arith, crowd steps cells s lowestFree below-taken)
+  pub lowest_live : lowest_free < live steps s
+  lowest_live = omega (arith, crowd steps cells s lowest_free below_taken)
 
   -- no other cell is free with all below it taken
-  pub lowest-one : (x : ℕ) → ((y : ℕ) → y < x → Taken steps cells s y) → (Taken steps cells s x → ⊥) → lowestFree ≡ x
-  lowest-one x all free =
-      elim (cases_order lowestFree x) [
+  pub lowest_one : (x : ℕ) → ((y : ℕ) → y < x → Taken steps cells s y) → (Taken steps cells s x → ⊥) → lowest_free ≡ x
+  lowest_one x all free =
+      elim (cases_order lowest_free x) [
         | inl e ↦ e
-        | inr o ↦ elim o [ inl l ↦ absurd (lowest-free (all lowestFree l)) | inr l ↦ absurd (free (below-taken x l)) ]
+        | inr o ↦ elim o [ inl l ↦ absurd (lowest_free_lem (all lowest_free l)) | inr l ↦ absurd (free (below_taken x l)) ]
       ]
 
 pub first_length : (steps : List Step) (n : ℕ) → length (first_cells steps n) ≡ n
 first_length steps zero = refl
-first_length steps (suc n) = omega (arith, length_push (first_cells steps n) (lowestFree steps (first_cells steps n) n), first_length steps n)
+first_length steps (suc n) = omega (arith, length_push (first_cells steps n) (lowest_free steps (first_cells steps n) n), first_length steps n)
 
 pub first_upto : (steps : List Step) (n : ℕ) → n ≤ length steps + 1 → Upto steps n (first_cells steps n)
 first_upto steps zero h = upto_none steps []
 first_upto steps (suc n) h =
     let cells : List ℕ = first_cells steps n in
-    upto_more steps n cells (lowestFree steps cells n) (omega arith) (first_length steps n) (lowest-live steps cells n) (lowest-free steps cells n)
+    upto_more steps n cells (lowest_free steps cells n) (omega arith) (first_length steps n) (lowest_live steps cells n) (lowest_free_lem steps cells n)
     (first_upto steps n (omega arith))
 
 -- one for each value, and the supplied placing

@@ -164,9 +164,9 @@ module _ (f : ℕ) (pos : 0 < f) where
   unfolding rem
   rem_lt x = (rem_in_is f (top f) low high x x (le_refl x)).0
 
-  pub rem-same : (x : ℕ) → Same f (rem f x) x
+  pub rem_same : (x : ℕ) → Same f (rem f x) x
   unfolding rem
-  rem-same x = (rem_in_is f (top f) low high x x (le_refl x)).1
+  rem_same x = (rem_in_is f (top f) low high x x (le_refl x)).1
 
   trans : {x y z : ℕ} → Same f x y → Same f y z → Same f x z
   trans = same_trans f (top f) low high
@@ -176,50 +176,50 @@ module _ (f : ℕ) (pos : 0 < f) where
 
   -- the only number below 2 ^ top f that differs from x by a multiple of f
   pub rem_is : (x r : ℕ) → r < 2 ^ top f → Same f r x → rem f x ≡ r
-  rem_is x r h k = same_below f (top f) low high (rem f x) r (rem_lt x) h (trans (rem-same x) (flip k))
+  rem_is x r h k = same_below f (top f) low high (rem f x) r (rem_lt x) h (trans (rem_same x) (flip k))
 
-  pub rem-remainder : (x : ℕ) → Remainder f x (rem f x)
-  rem-remainder x =
-      let s = flip (rem-same x) in
+  pub rem_remainder : (x : ℕ) → Remainder f x (rem f x)
+  rem_remainder x =
+      let s = flip (rem_same x) in
       record { below = rem_lt x; quotient = s.by; whole = s.eq ∙ xor_comm (rem f x) (times f s.by) }
 
-  pub remainder-rem : (x r : ℕ) → Remainder f x r → r ≡ rem f x
-  remainder-rem x r h =
+  pub remainder_rem : (x r : ℕ) → Remainder f x r → r ≡ rem f x
+  remainder_rem x r h =
       let s : Same f x r = record { by = h.quotient; eq = h.whole ∙ xor_comm (times f h.quotient) r } in
       sym (rem_is x r h.below (flip s))
 
   pub rem_of : (x y : ℕ) → Same f x y → rem f x ≡ rem f y
-  rem_of x y h = rem_is x (rem f y) (rem_lt y) (trans (rem-same y) (flip h))
+  rem_of x y h = rem_is x (rem f y) (rem_lt y) (trans (rem_same y) (flip h))
 
   pub rem_below : (x : ℕ) → x < 2 ^ top f → rem f x ≡ x
   rem_below x h = rem_is x x h (same_refl f (top f) low high x)
 
-  pub rem-add : (x y : ℕ) → rem f (bit_xor x y) ≡ bit_xor (rem f x) (rem f y)
-  rem-add x y =
+  pub rem_add : (x y : ℕ) → rem f (bit_xor x y) ≡ bit_xor (rem f x) (rem f y)
+  rem_add x y =
       rem_is (bit_xor x y) (bit_xor (rem f x) (rem f y)) (xor_lt (top f) (rem f x) (rem f y) (rem_lt x) (rem_lt y))
-      (same_add f (top f) low high (rem-same x) (rem-same y))
+      (same_add f (top f) low high (rem_same x) (rem_same y))
 
-  pub rem-dbl : (x : ℕ) → rem f (x * 2) ≡ reduce (top f) f (rem f x * 2)
-  rem-dbl x =
+  pub rem_dbl : (x : ℕ) → rem f (x * 2) ≡ reduce (top f) f (rem f x * 2)
+  rem_dbl x =
       let h = rem_lt x in
       let k : rem f x * 2 < 2 ^ suc (top f) = omega arith in
       rem_is (x * 2) (reduce (top f) f (rem f x * 2)) (reduce_lt f (top f) low high (rem f x * 2) k)
-      (trans (reduce_same f (top f) low high (rem f x * 2)) (same_dbl f (top f) low high (rem-same x)))
+      (trans (reduce_same f (top f) low high (rem f x * 2)) (same_dbl f (top f) low high (rem_same x)))
 
   -- ---- the two laws
 
-  pub product-native : (a b : ℕ) → product f a b < 2 ^ top f
+  pub product_native : (a b : ℕ) → product f a b < 2 ^ top f
   unfolding product
-  product-native a b = rem_lt (times a b)
+  product_native a b = rem_lt (times a b)
 
-  pub product-assoc : (a b c : ℕ) → product f (product f a b) c ≡ product f a (product f b c)
+  pub product_assoc : (a b c : ℕ) → product f (product f a b) c ≡ product f a (product f b c)
   unfolding product
-  product-assoc a b c =
-      rem_of (times (rem f (times a b)) c) (times (times a b) c) (same_times_l f (top f) low high c (rem-same (times a b)))
+  product_assoc a b c =
+      rem_of (times (rem f (times a b)) c) (times (times a b) c) (same_times_l f (top f) low high c (rem_same (times a b)))
       ∙ ap (rem f) (times_assoc a b c)
-      ∙ sym (rem_of (times a (rem f (times b c))) (times a (times b c)) (same_times_r f (top f) low high a (rem-same (times b c))))
+      ∙ sym (rem_of (times a (rem f (times b c))) (times a (times b c)) (same_times_r f (top f) low high a (rem_same (times b c))))
 
 -- ---- the laws, as they are stated
 
 pub reduces : Reduces
-reduces = ((λ f x h. rem-remainder f (omega arith) x), (λ f x r h k. remainder-rem f (omega arith) x r k))
+reduces = ((λ f x h. rem_remainder f (omega arith) x), (λ f x r h k. remainder_rem f (omega arith) x r k))

@@ -8,7 +8,7 @@ use Rattle.bits.specs.Bits.{top}
 use Rattle.polynomial_ring.specs.Polynomials.{times, reduce, rem}
 use Rattle.polynomial_ring.proofs.Products.{times_zero, times_step, times_add_l, times_add_r, times_dbl_r, times_one_l, times_comm, times_assoc}
 use Rattle.bits.proofs.Tops.{top_bounds}
-use Rattle.polynomial_ring.proofs.Remainders.{xor_top, rem-add, rem-dbl, rem_below, rem_of, rem-same}
+use Rattle.polynomial_ring.proofs.Remainders.{xor_top, rem_add, rem_dbl, rem_below, rem_of, rem_same}
 
 pub times_one : (a : ℕ) → times a 1 ≡ a
 times_one a = times_comm a 1 ∙ times_one_l a
@@ -124,9 +124,9 @@ pow_times j h =
 
 module _ (f : ℕ) (pos : 0 < f) where
   -- a factor may be reduced first
-  pub rem-times : (x z : ℕ) → rem f (times (rem f x) z) ≡ rem f (times x z)
-  rem-times x z =
-      let s = rem-same f pos x in
+  pub rem_times : (x z : ℕ) → rem f (times (rem f x) z) ≡ rem f (times x z)
+  rem_times x z =
+      let s = rem_same f pos x in
       rem_of f pos (times (rem f x) z) (times x z)
       (record {
         by = times s.by z;
@@ -134,11 +134,11 @@ module _ (f : ℕ) (pos : 0 < f) where
       })
 
   pub entry : (j u h : ℕ) → u ≡ rem f (2 ^ j) → rem f (times u h) ≡ rem f (h * 2 ^ j)
-  entry j u h e = ap (λ (w : ℕ). rem f (times w h)) e ∙ rem-times (2 ^ j) h ∙ ap (rem f) (pow_times j h)
+  entry j u h e = ap (λ (w : ℕ). rem f (times w h)) e ∙ rem_times (2 ^ j) h ∙ ap (rem f) (pow_times j h)
 
   -- the first unit
-  pub unit-first : bit_xor (2 ^ top f) f ≡ rem f (2 ^ top f)
-  unit-first =
+  pub unit_first : bit_xor (2 ^ top f) f ≡ rem f (2 ^ top f)
+  unit_first =
       let b = top_bounds f pos in
       let l : bit_xor (2 ^ top f) f < 2 ^ top f = xor_top (top f) (2 ^ top f) f (omega arith) (omega (arith, pow_pos (top f))) b.0 b.1 in
       sym (rem_of f pos (2 ^ top f) (bit_xor (2 ^ top f) f)
@@ -149,19 +149,19 @@ module _ (f : ℕ) (pos : 0 < f) where
       ∙ rem_below f pos (bit_xor (2 ^ top f) f) l)
 
   -- and the next, from the entry 8 of a row
-  pub unit-next : (j u e v : ℕ) → u ≡ rem f (2 ^ j) → e ≡ rem f (times u 8) → v ≡ reduce (top f) f (e * 2) → v ≡ rem f (2 ^ (j + 4))
-  unit-next j u e v hu he hv =
+  pub unit_next : (j u e v : ℕ) → u ≡ rem f (2 ^ j) → e ≡ rem f (times u 8) → v ≡ reduce (top f) f (e * 2) → v ≡ rem f (2 ^ (j + 4))
+  unit_next j u e v hu he hv =
       let p : 8 * 2 ^ j * 2 ≡ 2 ^ (j + 4) = omega (arith, pow-add 2 j 4) in
-      hv ∙ ap (λ (w : ℕ). reduce (top f) f (w * 2)) (he ∙ entry j u 8 hu) ∙ sym (rem-dbl f pos (8 * 2 ^ j)) ∙ ap (rem f) p
+      hv ∙ ap (λ (w : ℕ). reduce (top f) f (w * 2)) (he ∙ entry j u 8 hu) ∙ sym (rem_dbl f pos (8 * 2 ^ j)) ∙ ap (rem f) p
 
   -- entries of a row
-  pub entry-even : (u h x y : ℕ) → x ≡ rem f (times u h) → y ≡ reduce (top f) f (x * 2) → y ≡ rem f (times u (2 * h))
-  entry-even u h x y hx hy =
-      hy ∙ ap (λ (w : ℕ). reduce (top f) f (w * 2)) hx ∙ sym (rem-dbl f pos (times u h)) ∙ ap (rem f) (sym (times_even u h))
+  pub entry_even : (u h x y : ℕ) → x ≡ rem f (times u h) → y ≡ reduce (top f) f (x * 2) → y ≡ rem f (times u (2 * h))
+  entry_even u h x y hx hy =
+      hy ∙ ap (λ (w : ℕ). reduce (top f) f (w * 2)) hx ∙ sym (rem_dbl f pos (times u h)) ∙ ap (rem f) (sym (times_even u h))
 
-  pub entry-odd : (u h y : ℕ) → u < 2 ^ top f → y ≡ rem f (times u (2 * h)) → bit_xor y u ≡ rem f (times u (2 * h + 1))
-  entry-odd u h y l hy =
-      ap₂ bit_xor (hy ∙ ap (rem f) (times_even u h)) (sym (rem_below f pos u l)) ∙ sym (rem-add f pos (times u h * 2) u)
+  pub entry_odd : (u h y : ℕ) → u < 2 ^ top f → y ≡ rem f (times u (2 * h)) → bit_xor y u ≡ rem f (times u (2 * h + 1))
+  entry_odd u h y l hy =
+      ap₂ bit_xor (hy ∙ ap (rem f) (times_even u h)) (sym (rem_below f pos u l)) ∙ sym (rem_add f pos (times u h * 2) u)
       ∙ ap (rem f) (sym (times_odd u h))
 
   -- ---- a remainder by the table
@@ -178,15 +178,15 @@ module _ (f : ℕ) (pos : 0 < f) where
       xor_shifted x (4 * k) lo l ∙ sym (mod-pow-add h 4 (4 * k)) ∙ ap (λ (m : ℕ). h % 2 ^ m) e in
       let moved : x * 2 ^ (n + 4 * k) ≡ x * 2 ^ (4 * k) * 2 ^ n =
       ap (λ (m : ℕ). x * m) (pow-add 2 n (4 * k) ∙ mul_comm (2 ^ n) (2 ^ (4 * k))) ∙ sym (mul_assoc x (2 ^ (4 * k)) (2 ^ n)) in
-      sym (rem-add f pos (lo * 2 ^ n) (x * 2 ^ (n + 4 * k)))
+      sym (rem_add f pos (lo * 2 ^ n) (x * 2 ^ (n + 4 * k)))
       ∙ ap (rem f) (ap (bit_xor (lo * 2 ^ n)) moved ∙ xor_shl n lo (x * 2 ^ (4 * k)) ∙ ap (λ (m : ℕ). m * 2 ^ n) (xor_comm lo (x * 2 ^ (4 * k)) ∙ both))
 
-  pub fold-whole : (p : ℕ) → bit_xor (p % 2 ^ top f) (rem f (p / 2 ^ top f * 2 ^ top f)) ≡ rem f p
-  fold-whole p =
+  pub fold_whole : (p : ℕ) → bit_xor (p % 2 ^ top f) (rem f (p / 2 ^ top f * 2 ^ top f)) ≡ rem f p
+  fold_whole p =
       let n : ℕ = top f in
       let l : p % 2 ^ n < 2 ^ n = mod-lt p (pow_pos n) in
       ap (λ (x : ℕ). bit_xor x (rem f (p / 2 ^ n * 2 ^ n))) (sym (rem_below f pos (p % 2 ^ n) l))
-      ∙ sym (rem-add f pos (p % 2 ^ n) (p / 2 ^ n * 2 ^ n))
+      ∙ sym (rem_add f pos (p % 2 ^ n) (p / 2 ^ n * 2 ^ n))
       ∙ ap (rem f) (xor_comm (p % 2 ^ n) (p / 2 ^ n * 2 ^ n) ∙ xor_shifted (p / 2 ^ n) n (p % 2 ^ n) l ∙ split p n)
 
 -- the lowest n bits, by way of the lowest 64

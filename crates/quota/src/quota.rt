@@ -51,9 +51,9 @@ impl<U: Unit> Kind for Quota<U> {
 
     ghost kind = { λ q. U.Kind.kind q.below };
 
-    ghost closed = { first_of (Prim.search rules, Prim.grind (arith, Self.row.coded.inj)) };
+    ghost closed = { λ q. U.Kind.closed q.below };
 
-    ghost assoc = { first_of (Prim.search rules, Prim.grind (arith, Self.row.coded.inj)) };
+    ghost assoc = { λ q. U.Kind.assoc q.below };
 
     fn is_native(&self, v: U::Value) -> bool {
         self.below.is_native(v)
@@ -67,9 +67,9 @@ impl<U: Unit> Kind for Quota<U> {
 impl<U: Unit> Unit for Quota<U> {
     ghost state = { λ q. under_quota q.limit q.used (U.Unit.state q.below) };
 
-    ghost few = { first_of (Prim.search rules, Prim.grind (arith, Self.row.coded.inj)) };
+    ghost few = { λ q. U.Unit.few q.below };
 
-    ghost native = { first_of (Prim.search rules, Prim.grind (arith, Self.row.coded.inj)) };
+    ghost native = { λ q. U.Unit.native q.below };
 
     fn cells(&self) -> u8 {
         self.below.cells()

@@ -55,9 +55,9 @@ module _ {V : Type 0} (m : Meaning V) (s : State V) (n : ℕ) (steps : List Step
   must_not p (inr (inl none)) = let here = (fits_exactly steps (length s.cells)).1 p.fits in none here.0 here.1
   must_not p (inr (inr h)) = let l = p.enough in omega arith
 
-  pub accepted-effect : (v : V) (t : State V) → run_fault m s steps x ≡ None → Success m s n steps x v t
+  pub accepted_effect : (v : V) (t : State V) → run_fault m s steps x ≡ None → Success m s n steps x v t
       → Effect m s (record { run = Some (asked m n steps x); given = Some (v ∷ []) }) t
-  accepted-effect v t fine done =
+  accepted_effect v t fine done =
       let p = passed m s steps x fine in
       record {
         powers = λ r vs run given.
@@ -78,9 +78,9 @@ module _ {V : Type 0} (m : Meaning V) (s : State V) (n : ℕ) (steps : List Step
         );
       }
 
-  pub refused-effect : (e : Refusal) (t : State V) → run_fault m s steps x ≡ Some e → t ≡ s
+  pub refused_effect : (e : Refusal) (t : State V) → run_fault m s steps x ≡ Some e → t ≡ s
       → Effect m s (record { run = Some (asked m n steps x); given = None }) t
-  refused-effect e t fault same = record {
+  refused_effect e t fault same = record {
     powers = λ r vs run given. nothing_is_something vs given;
     left = ap (λ (z : State V). z.left) (sym same) ∙ omega arith;
     refused = λ r run.

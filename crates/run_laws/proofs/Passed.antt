@@ -15,7 +15,7 @@ use Rattle.kinds.proofs.Powers.{Laws}
 use Rattle.units.specs.Units.{State, load_fault, loaded}
 use Rattle.run_laws.specs.Traces.{Traces}
 use Rattle.run_laws.specs.Runs.{run_fault, cell_of, after_steps, after_run, last_value, Ready, Begun, HandsOut, Success}
-use Rattle.run_laws.proofs.Sitting.{Sits, sits-end}
+use Rattle.run_laws.proofs.Sitting.{Sits, sits_end}
 use Rattle.run_laws.proofs.Traced.{traced}
 use Rattle.run_laws.proofs.Turns.{not_refused}
 
@@ -49,8 +49,8 @@ module _ {V : Type 0} (m : Meaning V) (s : State V) (steps : List Step) (x : V) 
     load_fine = simp (lt-ltb (cell_of places 0) (length s.cells) (within.below 0 (omega arith)), (passed fine).native) refl
 
     -- the load is not refused
-    pub load-passes : (e : Refusal) → Err e ≡ verdict (load_fault m s (cell_of places 0) x) → ⊥
-    load-passes e q = not_refused _ e load_fine q
+    pub load_passes : (e : Refusal) → Err e ≡ verdict (load_fault m s (cell_of places 0) x) → ⊥
+    load_passes e q = not_refused _ e load_fine q
 
     -- the state after it
     pub load_is : (b : State V) → b ≡ settle (load_fault m s (cell_of places 0) x) s (loaded s (cell_of places 0) x) → b ≡ loaded s (cell_of places 0) x
@@ -92,7 +92,7 @@ module _ {V : Type 0} (m : Meaning V) (s : State V) (steps : List Step) (x : V) 
 
     pub success : Laws m → (given : V) (t : State V) → given ≡ power m x n → t ≡ after_run m s places steps x → Success m s n steps x given t
     success laws given t value after =
-        let sits = sits-end m (loaded s (cell_of places 0) x) n steps places x laws ready in
+        let sits = sits_end m (loaded s (cell_of places 0) x) n steps places x laws ready in
         record {
           supplied = supplied_cells_lem steps;
           fits = (passed fine).fits;

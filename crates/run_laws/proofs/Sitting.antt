@@ -9,7 +9,7 @@ use Rattle.placing.specs.Placing.{cites, Placing}
 use Rattle.placing.proofs.Run.{Stored, stored_read, stored_more}
 use Rattle.kinds.specs.Kinds.{Meaning}
 use Rattle.kinds.specs.Powers.{power}
-use Rattle.kinds.proofs.Powers.{Laws, power-add}
+use Rattle.kinds.proofs.Powers.{Laws, power_add}
 use Rattle.units.specs.Units.{State, reading, multiply_fault, multiplied, both}
 use Rattle.run_laws.specs.Runs.{cell_of, stepped, after_steps, Ready}
 
@@ -50,8 +50,8 @@ module _ {V : Type 0} (m : Meaning V) (s : State V) (n : ℕ) (steps : List Step
     pub stored : Stored powered steps places i t.cells
 
   module _ (laws : Laws m) (r : Ready m s n steps places x) where
-    pub sits-first : Sits 0 s
-    sits-first = record {
+    pub sits_first : Sits 0 s
+    sits_first = record {
       cells = refl;
       left = omega arith;
       stored = λ v d h k.
@@ -87,8 +87,8 @@ module _ {V : Type 0} (m : Meaning V) (s : State V) (n : ℕ) (steps : List Step
       has_left : 0 < t.left
       has_left = let a = sits.left in let b = r.enough in omega arith
 
-      pub next-fine : multiply_fault t (cell_of places (i + 1)) (cell_of places st.j) (cell_of places st.k) ≡ None
-      next-fine =
+      pub next_fine : multiply_fault t (cell_of places (i + 1)) (cell_of places st.j) (cell_of places st.k) ≡ None
+      next_fine =
           multiply_fine t (cell_of places (i + 1)) (cell_of places st.j) (cell_of places st.k) _ _
           (within (i + 1) (omega arith)) (within st.j (let a = below_j in omega arith)) (within st.k (let a = below_k in omega arith)) at_j at_k has_left
 
@@ -97,31 +97,31 @@ module _ {V : Type 0} (m : Meaning V) (s : State V) (n : ℕ) (steps : List Step
       made_is =
           let sum : value_at steps (i + 1) ≡ value_at steps st.j + value_at steps st.k =
           ap (value_at steps) (add-one i) ∙ value_suc steps i ∙ r.chain.sums i more in
-          let p = power-add m laws x r.native (value_at steps st.j) (value_at steps st.k)
+          let p = power_add m laws x r.native (value_at steps st.j) (value_at steps st.k)
           (value_positive n steps r.chain st.j (let a = below_j in omega arith))
           (value_positive n steps r.chain st.k (let a = below_k in omega arith)) in
           rw (at_j, at_k) (ap Some (sym p ∙ ap (power m x) (sym sum)))
 
-      pub sits-next : Sits (i + 1) (stepped m t places (i + 1) st)
-      sits-next = record {
+      pub sits_next : Sits (i + 1) (stepped m t places (i + 1) st)
+      sits_next = record {
         cells = length-set t.cells (cell_of places (i + 1)) _ ∙ sits.cells;
         left = let a = sits.left in let b = has_left in omega arith;
         stored = subst (λ (z : Option V). Stored powered steps places (i + 1) (set t.cells (cell_of places (i + 1)) z)) (sym made_is)
             (stored_more powered (length s.cells) steps places i t.cells r.placing (let a = sits.cells in omega arith) more sits.stored);
       }
 
-    pub sits-at : (i : ℕ) → i ≤ length steps → Sits i (after_steps m s places steps i)
-    sits-at zero h = sits-first
-    sits-at (suc i) h =
+    pub sits_at : (i : ℕ) → i ≤ length steps → Sits i (after_steps m s places steps i)
+    sits_at zero h = sits_first
+    sits_at (suc i) h =
         let t = after_steps m s places steps i in
-        subst (λ (z : ℕ). Sits z (stepped m t places z (step_at steps i))) (add-one i) (sits-next i t (omega arith) (sits-at i (omega arith)))
+        subst (λ (z : ℕ). Sits z (stepped m t places z (step_at steps i))) (add-one i) (sits_next i t (omega arith) (sits_at i (omega arith)))
 
-    pub sits-end : Sits (length steps) (after_steps m s places steps (length steps))
-    sits-end = sits-at (length steps) (omega arith)
+    pub sits_end : Sits (length steps) (after_steps m s places steps (length steps))
+    sits_end = sits_at (length steps) (omega arith)
 
-    pub read-fine : reading (after_steps m s places steps (length steps)) (cell_of places (length steps)) ≡ Ok (power m x n)
-    read-fine =
+    pub read_fine : reading (after_steps m s places steps (length steps)) (cell_of places (length steps)) ≡ Ok (power m x n)
+    read_fine =
         let t = after_steps m s places steps (length steps) in
-        let here = sits-end.stored (length steps) None (omega arith) (inl refl) in
-        let inside : cell_of places (length steps) < length t.cells = (let a = r.placing.below (length steps) (omega arith) in let b = sits-end.cells in omega arith) in
+        let here = sits_end.stored (length steps) None (omega arith) (inl refl) in
+        let inside : cell_of places (length steps) < length t.cells = (let a = r.placing.below (length steps) (omega arith) in let b = sits_end.cells in omega arith) in
         simp (lt-ltb (cell_of places (length steps)) (length t.cells) inside, here) (ap (λ (z : ℕ). Ok (power m x z)) r.chain.reaches)

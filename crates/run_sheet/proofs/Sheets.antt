@@ -4,6 +4,8 @@ use native.Mathlib.Bridge.{le_prop}
 use native.Mathlib.Nat.{ℕ_set}
 use Rattle.refusals.specs.Faults.{Unchanged}
 use Rattle.kinds.specs.Kinds.{Meaning}
+use Rattle.kinds.specs.declared.kind.Kind
+use Rattle.units.specs.declared.unit.Unit
 use Rattle.units.specs.declared.record.Record.{Record}
 use Rattle.units.specs.Units.{State, multiplied}
 use Rattle.units.proofs.Passing.{Multiplies}
@@ -13,7 +15,7 @@ use Rattle.run_sheet.specs.RunSheets.{sheeted, numbered}
 -- a multiplication that the run sheet accepts is accepted below
 pub multiplies_below : {V : Type 0} (s : State V) (rows : List Record) (n to a b : ℕ) → Multiplies (sheeted rows n s) to a b → Multiplies s to a b
 multiplies_below s rows n to a b l =
-    record { to_there = l.to-there; a_there = l.a-there; b_there = l.b_there; a_filled = l.a-filled; b_filled = l.b-filled; some = omega (arith, l.some) }
+    record { to_there = l.to_there; a_there = l.a_there; b_there = l.b_there; a_filled = l.a_filled; b_filled = l.b_filled; some = omega (arith, l.some) }
 
 -- a record stored and a multiplication made below are one multiplication through the run sheet
 pub one_more : {V : Type 0} (m : Meaning V) (s : State V) (rows : List Record) (n to a b : ℕ) → n < length rows →
@@ -25,7 +27,7 @@ one_more m s rows n to a b within =
     rw (e, f)
 
 -- a run sheet whose unit below alone was called is unchanged if that is
-pub refused_below : {X E U V : Type 0} (q : RunSheet U V) (below : U) (within : q.len ≤ 1024) (full : length q.records ≡ 1024) (r : Result X E)
+pub refused_below : {X E U V : Type 0} {gu : Unit.Ghosts U V} {gk : Kind.Ghosts U V} (q : RunSheet U V gu gk) (below : U) (within : q.len ≤ 1024) (full : length q.records ≡ 1024) (r : Result X E)
     → Unchanged r q.below below → Unchanged r q (record { below = below; records = q.records; len = q.len; within = within; full = full })
 refused_below q below within full (Ok x) h = tt
 refused_below q below within full (Err e) h =

@@ -11,7 +11,7 @@ use Rattle.plans.specs.Chain.{values, value_at, step_at, Chain}
 use Rattle.plans.proofs.Values.{value_suc, value_next}
 use Rattle.kinds.specs.Kinds.{Meaning, product_of}
 use Rattle.kinds.specs.Powers.{power}
-use Rattle.kinds.proofs.Powers.{Laws, power-native, power-add}
+use Rattle.kinds.proofs.Powers.{Laws, power_native, power_add}
 use Rattle.straight_runs.specs.Straight.{powers_of, straight_fault, straightened, straight_answer, straight_after}
 
 -- The first `count` places of `now` hold those of `all`, and the others what they held.
@@ -62,14 +62,14 @@ module _ {V : Type 0} (m : Meaning V) (laws : Laws m) (x : V) (base : m.native x
   read_power was now i j v h k f e = e ∙ holds_at (powers_of m s x) was now (i + 1) j v (omega arith) f ∙ power_at j v (omega arith)
 
   -- its two factors are native, so that their product is there
-  pub turn-some : (was now : List V) (i : ℕ) (a b : V) → i < length s → Holds (powers_of m s x) was now (i + 1)
+  pub turn_some : (was now : List V) (i : ℕ) (a b : V) → i < length s → Holds (powers_of m s x) was now (i + 1)
       → a ≡ get_or now (step_at s i).j a → b ≡ get_or now (step_at s i).k b → product_of m a b ≡ Some (m.times a b)
-  turn-some was now i a b h f ea eb =
+  turn_some was now i a b h f ea eb =
       let c = chain.cites i h in
       let pa = read_power was now i (step_at s i).j a h c.1 f ea in
       let pb = read_power was now i (step_at s i).k b h (omega arith) f eb in
-      let na : m.native a ≡ true = ap m.native pa ∙ power-native m laws x base (value_at s (step_at s i).j) in
-      let nb : m.native b ≡ true = ap m.native pb ∙ power-native m laws x base (value_at s (step_at s i).k) in
+      let na : m.native a ≡ true = ap m.native pa ∙ power_native m laws x base (value_at s (step_at s i).j) in
+      let nb : m.native b ≡ true = ap m.native pb ∙ power_native m laws x base (value_at s (step_at s i).k) in
       rw (na, nb) refl
 
   -- and it is the next power
@@ -80,21 +80,21 @@ module _ {V : Type 0} (m : Meaning V) (laws : Laws m) (x : V) (base : m.native x
       let k : ℕ = (step_at s i).k in
       let c = chain.cites i h in
       ap₂ m.times (read_power was now i j a h c.1 f ea) (read_power was now i k b h (omega arith) f eb)
-      ∙ sym (power-add m laws x base (value_at s j) (value_at s k) (value_positive n s chain j (omega arith)) (value_positive n s chain k (omega arith)))
+      ∙ sym (power_add m laws x base (value_at s j) (value_at s k) (value_positive n s chain j (omega arith)) (value_positive n s chain k (omega arith)))
       ∙ ap (power m x) (sym (chain.sums i h) ∙ sym (value_next s i))
       ∙ sym (power_at (i + 1) v (omega arith))
 
-  pub turn-next : (was now : List V) (i : ℕ) (a b v : V) → i < length s → i + 1 < length now → Holds (powers_of m s x) was now (i + 1)
+  pub turn_next : (was now : List V) (i : ℕ) (a b v : V) → i < length s → i + 1 < length now → Holds (powers_of m s x) was now (i + 1)
       → a ≡ get_or now (step_at s i).j a → b ≡ get_or now (step_at s i).k b → product_of m a b ≡ Some v
       → Holds (powers_of m s x) was (set now (i + 1) v) (i + 1 + 1)
-  turn-next was now i a b v h l f ea eb e =
-      let t = turn-some was now i a b h f ea eb in
+  turn_next was now i a b v h l f ea eb e =
+      let t = turn_some was now i a b h f ea eb in
       let p : v ≡ m.times a b = cc in
       holds_more (powers_of m s x) was now (i + 1) v l (omega (arith, powers_length m s x)) (p ∙ turn_power was now i a b v h f ea eb) f
 
   -- after the last step
-  pub run-done : (was now : List V) (i : ℕ) → i ≡ length s → Holds (powers_of m s x) (set was 0 x) now (i + 1) → now ≡ straightened m s x was
-  run-done was now i e f =
+  pub run_done : (was now : List V) (i : ℕ) → i ≡ length s → Holds (powers_of m s x) (set was 0 x) now (i + 1) → now ≡ straightened m s x was
+  run_done was now i e f =
       let k : i + 1 ≡ length (powers_of m s x) = omega (arith, powers_length m s x) in
       holds_all (powers_of m s x) (set was 0 x) now (i + 1) k f
       ∙ ap (λ (xs : List V). powers_of m s x ++ xs) (drop-set-lt (i + 1) was 0 x (omega arith) ∙ ap (λ (z : ℕ). drop (z + 1) was) e)

@@ -7,9 +7,9 @@ use Rattle.plans.specs.Chain.{no_step, step_at, Chain}
 use Rattle.planning.specs.Planning.{step}
 use Rattle.trimming.specs.Needed.{has, needed_for, needed_of, needed, Cited}
 use Rattle.trimming.specs.Trim.{rank, renumbered, keep, trimmed}
-use Rattle.trimming.proofs.Needing.{Citing, needed_last, needed-cases, cited-needed, has_one}
-use Rattle.trimming.proofs.Ranks.{rank-one, rank-none, rank_room, left, left_one, left_end, keep-length}
-use Rattle.trimming.proofs.Kept.{Closed, held, keep-chain}
+use Rattle.trimming.proofs.Needing.{Citing, needed_last, needed_cases, cited_needed, has_one}
+use Rattle.trimming.proofs.Ranks.{rank_one, rank_none, rank_room, left, left_one, left_end, keep_length}
+use Rattle.trimming.proofs.Kept.{Closed, held, keep_chain}
 
 -- a plan all of whose values past a_0 are kept stays as it is
 module _ (n : ℕ) (kept : List ℕ) (t : List Step) (chain : Chain n t) (all : (c : ℕ) → 1 ≤ c → c ≤ length t → has kept c ≡ true) where
@@ -17,7 +17,7 @@ module _ (n : ℕ) (kept : List ℕ) (t : List Step) (chain : Chain n t) (all : 
   same_rank zero h = refl
   same_rank (suc c) h =
       let e : suc c ≡ c + 1 = omega arith in
-      omega (arith, ap (rank kept) e, rank-one kept c (all (c + 1) (omega arith) (omega arith)), same_rank c (omega arith))
+      omega (arith, ap (rank kept) e, rank_one kept c (all (c + 1) (omega arith) (omega arith)), same_rank c (omega arith))
 
   same_left : (d i : ℕ) → i + d ≡ length t → left kept t i ≡ drop i t
   same_left zero i e =
@@ -43,10 +43,10 @@ module _ (n : ℕ) (s : List Step) (chain : Chain n s) where
   kept = needed_of s
 
   closed : Closed kept s
-  closed a m h e c = cited-needed (length s ∷ []) s a m chain.cites h e c
+  closed a m h e c = cited_needed (length s ∷ []) s a m chain.cites h e c
 
-  pub trimmed-chain : Chain n (trimmed s)
-  trimmed-chain = keep-chain n kept s chain closed (needed_last s)
+  pub trimmed_chain : Chain n (trimmed s)
+  trimmed_chain = keep_chain n kept s chain closed (needed_last s)
 
   -- a needed step that cites m is before no value that it cites, and cites its new number
   cites_again : (a m : ℕ) → a < length s → Cited (step_at s a) m → (m ≤ a) × Cited (renumbered kept (step_at s a)) (rank kept m)
@@ -58,7 +58,7 @@ module _ (n : ℕ) (s : List Step) (chain : Chain n s) where
       e
 
   last_again : (m : ℕ) → m ≡ length s → needed (trimmed s) (rank kept m) ≡ true
-  last_again m q = ap (needed (trimmed s)) (ap (rank kept) q ∙ sym (keep-length kept s)) ∙ needed_last (trimmed s)
+  last_again m q = ap (needed (trimmed s)) (ap (rank kept) q ∙ sym (keep_length kept s)) ∙ needed_last (trimmed s)
 
   -- a value that is needed is needed under its new number
   again_needed : (f m : ℕ) → length s ≤ m + f → m ≤ length s → needed s m ≡ true → needed (trimmed s) (rank kept m) ≡ true
@@ -72,11 +72,11 @@ module _ (n : ℕ) (s : List Step) (chain : Chain n s) where
       let t : needed s (a + 1) ≡ true = q.2 in
       let c = cites_again a m al q.3 in
       let le : m ≤ a = c.0 in
-      let w : needed (trimmed s) (rank kept a + 1) ≡ true = sym (ap (needed (trimmed s)) (rank-one kept a t)) ∙ again_needed f (a + 1) (omega arith) (omega arith) t in
-      let k : rank kept a < length (trimmed s) = omega (arith, rank_room kept s a al t, keep-length kept s) in
+      let w : needed (trimmed s) (rank kept a + 1) ≡ true = sym (ap (needed (trimmed s)) (rank_one kept a t)) ∙ again_needed f (a + 1) (omega arith) (omega arith) t in
+      let k : rank kept a < length (trimmed s) = omega (arith, rank_room kept s a al t, keep_length kept s) in
       let x = (held n kept s chain closed).steps a al t in
-      cited-needed (length (trimmed s) ∷ []) (trimmed s) (rank kept a) (rank kept m) trimmed-chain.cites k w (subst (λ (y : Step). Cited y (rank kept m)) (sym x) c.1))
-      (needed-cases (length s ∷ []) s m e)
+      cited_needed (length (trimmed s) ∷ []) (trimmed s) (rank kept a) (rank kept m) trimmed_chain.cites k w (subst (λ (y : Step). Cited y (rank kept m)) (sym x) c.1))
+      (needed_cases (length s ∷ []) s m e)
 
   -- each new number is that of a needed value
   onto : (i c : ℕ) → 1 ≤ c → c ≤ rank kept i → (m : ℕ) × (m ≤ i) × (needed s m ≡ true) × (rank kept m ≡ c)
@@ -87,16 +87,16 @@ module _ (n : ℕ) (s : List Step) (chain : Chain n s) where
       ⊎_elim
       (λ (k : rank kept i < c).
       ⊎_elim
-      (λ (t : has kept (i + 1) ≡ true). (suc i, omega arith, ap (has kept) e ∙ t, omega (arith, rank-one kept i t)))
-      (λ (t : has kept (i + 1) ≡ false). let no : ⊥ = omega (arith, rank-none kept i t) in absurd no)
+      (λ (t : has kept (i + 1) ≡ true). (suc i, omega arith, ap (has kept) e ∙ t, omega (arith, rank_one kept i t)))
+      (λ (t : has kept (i + 1) ≡ false). let no : ⊥ = omega (arith, rank_none kept i t) in absurd no)
       (cases_Bool (has kept (i + 1))))
       (λ (k : c ≤ rank kept i). let r = onto i c l k in (r.0, omega (arith, r.1), r.2, r.3))
       (cases_lt (rank kept i) c)
 
   all_needed : (c : ℕ) → 1 ≤ c → c ≤ length (trimmed s) → needed (trimmed s) c ≡ true
   all_needed c l h =
-      let r = onto (length s) c l (omega (arith, keep-length kept s)) in
+      let r = onto (length s) c l (omega (arith, keep_length kept s)) in
       sym (ap (needed (trimmed s)) r.3) ∙ again_needed (length s) r.0 (omega arith) r.1 r.2
 
-  pub trimmed-again : trimmed (trimmed s) ≡ trimmed s
-  trimmed-again = keep_same n (needed_of (trimmed s)) (trimmed s) trimmed-chain all_needed
+  pub trimmed_again : trimmed (trimmed s) ≡ trimmed s
+  trimmed_again = keep_same n (needed_of (trimmed s)) (trimmed s) trimmed_chain all_needed

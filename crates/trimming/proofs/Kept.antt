@@ -11,7 +11,7 @@ use Rattle.plans.proofs.Admissions.{Fits}
 use Rattle.planning.proofs.Growing.{Grows, last_value, value_append, grows_none, grows_push, last_push, chain_from_grows}
 use Rattle.trimming.specs.Needed.{has, Cited}
 use Rattle.trimming.specs.Trim.{rank, renumbered, keep}
-use Rattle.trimming.proofs.Ranks.{rank-one, rank-none, rank_up, rank-le, left, left_one, left_none, left_end}
+use Rattle.trimming.proofs.Ranks.{rank_one, rank_none, rank_up, rank_le, left, left_one, left_none, left_end}
 
 -- what a kept step cites is kept
 abbrev pub Closed : List ℕ → List Step → Type 0
@@ -32,7 +32,7 @@ module _ (n : ℕ) (kept : List ℕ) (s : List Step) (chain : Chain n s) (closed
       let c = chain.cites i h in
       let r = chain.rises i h in
       let long : length p ≡ rank kept i = f.long in
-      let one = rank-one kept i e in
+      let one = rank_one kept i e in
       let push = length_push p x in
       let vj = f.values (step_at s i).j c.1 (closed i (step_at s i).j h e (inl refl)) in
       let vk = f.values (step_at s i).k (omega arith) (closed i (step_at s i).k h e (inr refl)) in
@@ -58,7 +58,7 @@ module _ (n : ℕ) (kept : List ℕ) (s : List Step) (chain : Chain n s) (closed
             (cases_lt m (i + 1));
         steps = λ a l t.
             ⊎_elim
-            (λ (k : a < i). get_or-append p (x ∷ []) no_step (rank kept a) (omega (arith, rank_up kept (a + 1) i (omega arith), rank-one kept a t)) ∙ f.steps a k t)
+            (λ (k : a < i). get_or-append p (x ∷ []) no_step (rank kept a) (omega (arith, rank_up kept (a + 1) i (omega arith), rank_one kept a t)) ∙ f.steps a k t)
             (λ (k : i ≤ a).
             let q : a ≡ i = omega arith in
             let w : rank kept a ≡ length p = ap (rank kept) q ∙ sym long in
@@ -72,7 +72,7 @@ module _ (n : ℕ) (kept : List ℕ) (s : List Step) (chain : Chain n s) (closed
       let r = chain.rises i h in
       let other : (m : ℕ) → m ≡ i + 1 → has kept m ≡ true → ⊥ = λ m q t. true≢false (sym t ∙ ap (has kept) q ∙ e) in
       record {
-        long = f.long ∙ sym (rank-none kept i e);
+        long = f.long ∙ sym (rank_none kept i e);
         grows = f.grows;
         values = λ m l t. ⊎_elim (λ (k : m < i + 1). f.values m (omega arith) t) (λ (k : i + 1 ≤ m). absurd (other m (omega arith) t)) (cases_lt m (i + 1));
         steps = λ a l t. ⊎_elim (λ (k : a < i). f.steps a k t) (λ (k : i ≤ a). absurd (other (a + 1) (omega arith) t)) (cases_lt a i);
@@ -106,9 +106,9 @@ module _ (n : ℕ) (kept : List ℕ) (s : List Step) (chain : Chain n s) (closed
         last = omega arith;
       })
 
-  pub keep-chain : has kept (length s) ≡ true → Chain n (keep kept s)
-  keep-chain e =
+  pub keep_chain : has kept (length s) ≡ true → Chain n (keep kept s)
+  keep_chain e =
       let f = held in
       let l : length (keep kept s) ≡ rank kept (length s) = f.long in
-      chain_from_grows n (keep kept s) chain.positive chain.bounded (omega (arith, rank-le kept (length s), chain.short)) f.grows
+      chain_from_grows n (keep kept s) chain.positive chain.bounded (omega (arith, rank_le kept (length s), chain.short)) f.grows
       (ap (value_at (keep kept s)) l ∙ f.values (length s) (omega arith) e ∙ chain.reaches)

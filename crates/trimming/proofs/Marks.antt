@@ -10,8 +10,8 @@ use Rattle.planning.specs.Planning.{step}
 use Rattle.planning.proofs.Filling.{Filled, filled_more, filled_all}
 use Rattle.trimming.specs.Needed.{has, needed_of}
 use Rattle.trimming.specs.Trim.{rank, renumbered, keep, trimmed, trim_answer}
-use Rattle.trimming.proofs.Needing.{after, after_here, after_end, with-yes, with-no}
-use Rattle.trimming.proofs.Ranks.{rank-next, rank-one, rank-none, rank-le, left, left_one, left_none, left_end, keep-length}
+use Rattle.trimming.proofs.Needing.{after, after_here, after_end, with_yes, with_no}
+use Rattle.trimming.proofs.Ranks.{rank_next, rank_one, rank_none, rank_le, left, left_one, left_none, left_end, keep_length}
 
 -- ---- marks
 
@@ -48,17 +48,17 @@ module _ (marks : List Bool) (roots : List ℕ) (s : List Step) (b : ℕ) (pos :
   marked_later : Marked marks later
   marked_later = let e : b ≡ b - 1 + 1 = omega arith in subst (λ (x : ℕ). Marked marks (after roots s x)) e inv
 
-  pub marked-yes : (j k : ℕ) → j < 129 → k < 129 → j ≡ (step_at s (b - 1)).j → k ≡ (step_at s (b - 1)).k → get_or marks (b - 1 + 1) false ≡ true → Marked (set (set marks j true) k true) (after roots s (b - 1))
-  marked-yes j k jl kl je ke t =
+  pub marked_yes : (j k : ℕ) → j < 129 → k < 129 → j ≡ (step_at s (b - 1)).j → k ≡ (step_at s (b - 1)).k → get_or marks (b - 1 + 1) false ≡ true → Marked (set (set marks j true) k true) (after roots s (b - 1))
+  marked_yes j k jl kl je ke t =
       let f = marked_later in
-      let y = with-yes (b - 1 + 1) (step_at s (b - 1)) later (sym (f.same (b - 1 + 1) (omega arith)) ∙ t) in
+      let y = with_yes (b - 1 + 1) (step_at s (b - 1)) later (sym (f.same (b - 1 + 1) (omega arith)) ∙ t) in
       let e : k ∷ j ∷ later ≡ after roots s (b - 1) = ap (λ (x : ℕ). x ∷ j ∷ later) ke ∙ ap (λ (x : ℕ). (step_at s (b - 1)).k ∷ x ∷ later) je ∙ sym (after_here roots s (b - 1) (omega arith) ∙ y) in
       subst (Marked (set (set marks j true) k true)) e (marked_more (set marks j true) (j ∷ later) k kl (marked_more marks later j jl f))
 
-  pub marked-no : get_or marks (b - 1 + 1) false ≡ false → Marked marks (after roots s (b - 1))
-  marked-no t =
+  pub marked_no : get_or marks (b - 1 + 1) false ≡ false → Marked marks (after roots s (b - 1))
+  marked_no t =
       let f = marked_later in
-      let n = with-no (b - 1 + 1) (step_at s (b - 1)) later (sym (f.same (b - 1 + 1) (omega arith)) ∙ t) in
+      let n = with_no (b - 1 + 1) (step_at s (b - 1)) later (sym (f.same (b - 1 + 1) (omega arith)) ∙ t) in
       subst (Marked marks) (sym (after_here roots s (b - 1) (omega arith) ∙ n)) f
 
 -- ---- new numbers
@@ -97,26 +97,26 @@ numbered_more numbers kept i v b h f ev eb =
           (λ (k : m ≡ i + 1).
           ap (λ (y : ℕ). get_or (set numbers (i + 1) x) y 0) k
           ∙ get_or-set_same numbers (i + 1) x 0 (omega arith)
-          ∙ omega (arith, f.same i (omega arith), rank-next kept i, ap (rank kept) k))
+          ∙ omega (arith, f.same i (omega arith), rank_next kept i, ap (rank kept) k))
           (λ (k : m ≡ i + 1 → ⊥). get_or-set_other numbers (i + 1) m x 0 k ∙ f.same m (omega arith))
           (cases_eq m (i + 1));
-      small = rank-le kept (i + 1);
+      small = rank_le kept (i + 1);
     }
 
 -- ---- the answer
 
 module _ (s : List Step) (places len : ℕ) (e : len ≡ rank (needed_of s) (length s)) where
   length_is : len ≡ length (trimmed s)
-  length_is = e ∙ sym (keep-length (needed_of s) s)
+  length_is = e ∙ sym (keep_length (needed_of s) s)
 
-  pub trim-short : places < len → Err (TableShort len) ≡ trim_answer s places
-  trim-short h =
+  pub trim_short : places < len → Err (TableShort len) ≡ trim_answer s places
+  trim_short h =
       let l = length_is in
       let t : leb (length (trimmed s)) places ≡ false = lt-leb _ _ (omega arith) in
       ap (λ (x : ℕ). Err (TableShort x)) l ∙ ap (λ (v : Bool). cond v (Ok (length (trimmed s))) (Err (TableShort (length (trimmed s))))) (sym t)
 
-  pub trim-fits : len ≤ places → Ok len ≡ trim_answer s places
-  trim-fits h =
+  pub trim_fits : len ≤ places → Ok len ≡ trim_answer s places
+  trim_fits h =
       let l = length_is in
       let t : leb (length (trimmed s)) places ≡ true = le-leb _ _ (omega arith) in
       ap (λ (x : ℕ). Ok x) l ∙ ap (λ (v : Bool). cond v (Ok (length (trimmed s))) (Err (TableShort (length (trimmed s))))) (sym t)
@@ -132,17 +132,17 @@ pub writing_none : (kept : List ℕ) (s was : List Step) → Writing kept s was 
 writing_none kept s was = record { filled = record { front = refl; back = refl }; count = refl }
 
 module _ (kept : List ℕ) (s was t : List Step) (at i : ℕ) (w : Writing kept s was t at i) (h : i < length s) where
-  pub writing-yes : (a b : ℕ) → has kept (i + 1) ≡ true → at < length t → a ≡ rank kept (step_at s i).j → b ≡ rank kept (step_at s i).k → Writing kept s was (set t at (step a b (step_at s i).value)) (at + 1) (i + 1)
-  writing-yes a b n l ea eb =
+  pub writing_yes : (a b : ℕ) → has kept (i + 1) ≡ true → at < length t → a ≡ rank kept (step_at s i).j → b ≡ rank kept (step_at s i).k → Writing kept s was (set t at (step a b (step_at s i).value)) (at + 1) (i + 1)
+  writing_yes a b n l ea eb =
       let x : step a b (step_at s i).value ≡ renumbered kept (step_at s i) = rw (ea, eb) refl in
       let g = filled_more (keep kept s) was t at (renumbered kept (step_at s i)) (left kept s (i + 1)) l (subst (Filled (keep kept s) was t at) (left_one kept s i h n) w.filled) in
       record {
         filled = subst (λ (y : Step). Filled (keep kept s) was (set t at y) (at + 1) (left kept s (i + 1))) (sym x) g;
-        count = omega (arith, w.count, rank-one kept i n);
+        count = omega (arith, w.count, rank_one kept i n);
       }
 
-  pub writing-no : has kept (i + 1) ≡ false → Writing kept s was t at (i + 1)
-  writing-no n = record { filled = subst (Filled (keep kept s) was t at) (left_none kept s i h n) w.filled; count = w.count ∙ sym (rank-none kept i n) }
+  pub writing_no : has kept (i + 1) ≡ false → Writing kept s was t at (i + 1)
+  writing_no n = record { filled = subst (Filled (keep kept s) was t at) (left_none kept s i h n) w.filled; count = w.count ∙ sym (rank_none kept i n) }
 
 -- all steps are passed
 pub writing_all : (kept : List ℕ) (s was now : List Step) (at i len : ℕ) → Writing kept s was now at i → i ≡ length s → len ≡ rank kept (length s) → len ≤ length now → (now ≡ keep kept s ++ drop (length (keep kept s)) was) × (take len now ≡ keep kept s)

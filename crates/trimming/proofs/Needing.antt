@@ -23,22 +23,22 @@ after_all roots s = refl
 -- ---- one step
 
 module _ (i : ℕ) (x : Step) (l : List ℕ) where
-  pub with-yes : has l i ≡ true → with_cited i x l ≡ x.k ∷ x.j ∷ l
-  with-yes e = ap (λ (b : Bool). cond b (x.k ∷ x.j ∷ l) l) e
+  pub with_yes : has l i ≡ true → with_cited i x l ≡ x.k ∷ x.j ∷ l
+  with_yes e = ap (λ (b : Bool). cond b (x.k ∷ x.j ∷ l) l) e
 
-  pub with-no : has l i ≡ false → with_cited i x l ≡ l
-  with-no e = ap (λ (b : Bool). cond b (x.k ∷ x.j ∷ l) l) e
+  pub with_no : has l i ≡ false → with_cited i x l ≡ l
+  with_no e = ap (λ (b : Bool). cond b (x.k ∷ x.j ∷ l) l) e
 
   with_more : (m : ℕ) → has l m ≡ true → has (with_cited i x l) m ≡ true
   with_more m e =
       ⊎_elim
-      (λ (t : has l i ≡ true). ap (λ (r : List ℕ). has r m) (with-yes t) ∙ or_right (eqb m x.k) (eqb m x.j || has l m) (or_right (eqb m x.j) (has l m) e))
-      (λ (t : has l i ≡ false). ap (λ (r : List ℕ). has r m) (with-no t) ∙ e)
+      (λ (t : has l i ≡ true). ap (λ (r : List ℕ). has r m) (with_yes t) ∙ or_right (eqb m x.k) (eqb m x.j || has l m) (or_right (eqb m x.j) (has l m) e))
+      (λ (t : has l i ≡ false). ap (λ (r : List ℕ). has r m) (with_no t) ∙ e)
       (cases_Bool (has l i))
 
   with_cited_lem : (m : ℕ) → has l i ≡ true → Cited x m → has (with_cited i x l) m ≡ true
   with_cited_lem m t c =
-      ap (λ (r : List ℕ). has r m) (with-yes t)
+      ap (λ (r : List ℕ). has r m) (with_yes t)
       ∙ ⊎_elim
       (λ (e : m ≡ x.j). or_right (eqb m x.k) (eqb m x.j || has l m) (or_left (eqb m x.j) (has l m) (eq-eqb m x.j e)))
       (λ (e : m ≡ x.k). or_left (eqb m x.k) (eqb m x.j || has l m) (eq-eqb m x.k e))
@@ -51,8 +51,8 @@ module _ (i : ℕ) (x : Step) (l : List ℕ) where
       ⊎_elim
       (λ (k : eqb m x.k ≡ true). inr (t, inr (eqb-true m x.k k)))
       (λ (r : (eqb m x.j || has l m) ≡ true). ⊎_elim (λ (j : eqb m x.j ≡ true). inr (t, inl (eqb-true m x.j j))) (λ (q : has l m ≡ true). inl q) (or_cases (eqb m x.j) (has l m) r))
-      (or_cases (eqb m x.k) (eqb m x.j || has l m) (sym (ap (λ (r : List ℕ). has r m) (with-yes t)) ∙ e)))
-      (λ (t : has l i ≡ false). inl (sym (ap (λ (r : List ℕ). has r m) (with-no t)) ∙ e))
+      (or_cases (eqb m x.k) (eqb m x.j || has l m) (sym (ap (λ (r : List ℕ). has r m) (with_yes t)) ∙ e)))
+      (λ (t : has l i ≡ false). inl (sym (ap (λ (r : List ℕ). has r m) (with_no t)) ∙ e))
       (cases_Bool (has l i))
 
 -- ---- all steps
@@ -66,8 +66,8 @@ module _ (roots : List ℕ) (s : List Step) where
       up i m (omega arith)
       (ap (λ (l : List ℕ). has l m) (after_here roots s i (omega arith)) ∙ with_more (i + 1) (step_at s i) (after roots s (i + 1)) m (ap (λ (y : ℕ). has (after roots s y) m) k ∙ e))
 
-  pub root-needed : (m : ℕ) → has roots m ≡ true → has (needed_for roots s) m ≡ true
-  root-needed m e = up (length s) m (omega arith) (ap (λ (l : List ℕ). has l m) (after_end roots s) ∙ e)
+  pub root_needed : (m : ℕ) → has roots m ≡ true → has (needed_for roots s) m ≡ true
+  root_needed m e = up (length s) m (omega arith) (ap (λ (l : List ℕ). has l m) (after_end roots s) ∙ e)
 
   -- no step up to number m cites value m
   late : (d i m : ℕ) → Cites s → i + d ≡ m → m ≤ length s → has (after roots s i) m ≡ true → has (after roots s m) m ≡ true
@@ -83,8 +83,8 @@ module _ (roots : List ℕ) (s : List Step) where
       (with_cases (i + 1) (step_at s i) (after roots s (i + 1)) m (sym (ap (λ (r : List ℕ). has r m) (after_here roots s i l)) ∙ e))
 
   -- what a needed step cites is needed
-  pub cited-needed : (i m : ℕ) → Cites s → i < length s → has (needed_for roots s) (i + 1) ≡ true → Cited (step_at s i) m → has (needed_for roots s) m ≡ true
-  cited-needed i m c h e q =
+  pub cited_needed : (i m : ℕ) → Cites s → i < length s → has (needed_for roots s) (i + 1) ≡ true → Cited (step_at s i) m → has (needed_for roots s) m ≡ true
+  cited_needed i m c h e q =
       let f = late (i + 1) 0 (i + 1) c (omega arith) (omega arith) (ap (λ (l : List ℕ). has l (i + 1)) (after_all roots s) ∙ e) in
       up i m (omega arith) (ap (λ (l : List ℕ). has l m) (after_here roots s i h) ∙ with_cited_lem (i + 1) (step_at s i) (after roots s (i + 1)) m f q)
 
@@ -103,8 +103,8 @@ module _ (roots : List ℕ) (s : List Step) where
       (λ (t : (has (after roots s (i + 1)) (i + 1) ≡ true) × Cited (step_at s i) m). inr (i, omega arith, up (i + 1) (i + 1) (omega arith) t.0, t.1))
       (with_cases (i + 1) (step_at s i) (after roots s (i + 1)) m (sym (ap (λ (r : List ℕ). has r m) (after_here roots s i (omega arith))) ∙ e))
 
-  pub needed-cases : (m : ℕ) → has (needed_for roots s) m ≡ true → (has roots m ≡ true) ⊎ Citing m
-  needed-cases m e = down (length s) 0 m (omega arith) (ap (λ (l : List ℕ). has l m) (after_all roots s) ∙ e)
+  pub needed_cases : (m : ℕ) → has (needed_for roots s) m ≡ true → (has roots m ≡ true) ⊎ Citing m
+  needed_cases m e = down (length s) 0 m (omega arith) (ap (λ (l : List ℕ). has l m) (after_all roots s) ∙ e)
 
 -- ---- the last value as the root
 
@@ -112,10 +112,10 @@ pub has_one : (n m : ℕ) → has (n ∷ []) m ≡ true → m ≡ n
 has_one n m e = ⊎_elim (λ (t : eqb m n ≡ true). eqb-true m n t) (λ (t : false ≡ true). absurd (true≢false (sym t))) (or_cases (eqb m n) false e)
 
 pub needed_last : (s : List Step) → needed s (length s) ≡ true
-needed_last s = root-needed (length s ∷ []) s (length s) (or_left (eqb (length s) (length s)) false (eq-eqb (length s) (length s) refl))
+needed_last s = root_needed (length s ∷ []) s (length s) (or_left (eqb (length s) (length s)) false (eq-eqb (length s) (length s) refl))
 
 pub needed_law : (s : List Step) → Cites s → NeededLaw s
 needed_law s c i = (
-  λ e. ⊎_elim (λ (t : has (length s ∷ []) i ≡ true). inl (has_one (length s) i t)) (λ (t : Citing (length s ∷ []) s i). inr t) (needed-cases (length s ∷ []) s i e),
-  λ q. ⊎_elim (λ (t : i ≡ length s). ap (needed s) t ∙ needed_last s) (λ (t : Citing (length s ∷ []) s i). cited-needed (length s ∷ []) s t.0 i c t.1 t.2 t.3) q,
+  λ e. ⊎_elim (λ (t : has (length s ∷ []) i ≡ true). inl (has_one (length s) i t)) (λ (t : Citing (length s ∷ []) s i). inr t) (needed_cases (length s ∷ []) s i e),
+  λ q. ⊎_elim (λ (t : i ≡ length s). ap (needed s) t ∙ needed_last s) (λ (t : Citing (length s ∷ []) s i). cited_needed (length s ∷ []) s t.0 i c t.1 t.2 t.3) q,
 )

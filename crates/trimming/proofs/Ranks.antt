@@ -8,26 +8,26 @@ use Rattle.trimming.specs.Needed.{has}
 use Rattle.trimming.specs.Trim.{rank, renumbered, kept_from, keep}
 
 module _ (kept : List ℕ) where
-  pub rank-next : (i : ℕ) → rank kept (i + 1) ≡ rank kept i + cond (has kept (i + 1)) 1 0
-  rank-next i = rw (add-one i) refl
+  pub rank_next : (i : ℕ) → rank kept (i + 1) ≡ rank kept i + cond (has kept (i + 1)) 1 0
+  rank_next i = rw (add-one i) refl
 
-  pub rank-one : (i : ℕ) → has kept (i + 1) ≡ true → rank kept (i + 1) ≡ rank kept i + 1
-  rank-one i e = rank-next i ∙ ap (λ (v : Bool). rank kept i + cond v 1 0) e
+  pub rank_one : (i : ℕ) → has kept (i + 1) ≡ true → rank kept (i + 1) ≡ rank kept i + 1
+  rank_one i e = rank_next i ∙ ap (λ (v : Bool). rank kept i + cond v 1 0) e
 
-  pub rank-none : (i : ℕ) → has kept (i + 1) ≡ false → rank kept (i + 1) ≡ rank kept i
-  rank-none i e = rank-next i ∙ ap (λ (v : Bool). rank kept i + cond v 1 0) e ∙ omega arith
+  pub rank_none : (i : ℕ) → has kept (i + 1) ≡ false → rank kept (i + 1) ≡ rank kept i
+  rank_none i e = rank_next i ∙ ap (λ (v : Bool). rank kept i + cond v 1 0) e ∙ omega arith
 
   -- a step up by one or none
   rank_step : (i : ℕ) → (rank kept i ≤ rank kept (i + 1)) × (rank kept (i + 1) ≤ rank kept i + 1)
   rank_step i =
       ⊎_elim
-      (λ (e : has kept (i + 1) ≡ true). let r = rank-one i e in (omega arith, omega arith))
-      (λ (e : has kept (i + 1) ≡ false). let r = rank-none i e in (omega arith, omega arith))
+      (λ (e : has kept (i + 1) ≡ true). let r = rank_one i e in (omega arith, omega arith))
+      (λ (e : has kept (i + 1) ≡ false). let r = rank_none i e in (omega arith, omega arith))
       (cases_Bool (has kept (i + 1)))
 
-  pub rank-le : (i : ℕ) → rank kept i ≤ i
-  rank-le zero = omega arith
-  rank-le (suc i) = let e : suc i ≡ i + 1 = omega arith in omega (arith, rank-le i, (rank_step i).1, ap (rank kept) e)
+  pub rank_le : (i : ℕ) → rank kept i ≤ i
+  rank_le zero = omega arith
+  rank_le (suc i) = let e : suc i ≡ i + 1 = omega arith in omega (arith, rank_le i, (rank_step i).1, ap (rank kept) e)
 
   rank_mono : (d i : ℕ) → rank kept i ≤ rank kept (d + i)
   rank_mono zero i = let e : i ≡ 0 + i = omega arith in omega (arith, ap (rank kept) e)
@@ -60,12 +60,12 @@ module _ (kept : List ℕ) (s : List Step) where
   left_length (suc d) i q =
       let n = left_length d (i + 1) (omega arith) in
       ⊎_elim
-      (λ (e : has kept (i + 1) ≡ true). omega (arith, rank-one kept i e, ap length (left_one i (omega arith) e)))
-      (λ (e : has kept (i + 1) ≡ false). omega (arith, rank-none kept i e, ap length (left_none i (omega arith) e)))
+      (λ (e : has kept (i + 1) ≡ true). omega (arith, rank_one kept i e, ap length (left_one i (omega arith) e)))
+      (λ (e : has kept (i + 1) ≡ false). omega (arith, rank_none kept i e, ap length (left_none i (omega arith) e)))
       (cases_Bool (has kept (i + 1)))
 
-  pub keep-length : length (keep kept s) ≡ rank kept (length s)
-  keep-length = omega (arith, left_length (length s) 0 (omega arith))
+  pub keep_length : length (keep kept s) ≡ rank kept (length s)
+  keep_length = omega (arith, left_length (length s) 0 (omega arith))
 
   pub rank_room : (i : ℕ) → i < length s → has kept (i + 1) ≡ true → rank kept i + 1 ≤ rank kept (length s)
-  rank_room i h e = omega (arith, rank-one kept i e, rank_up kept (i + 1) (length s) (omega arith))
+  rank_room i h e = omega (arith, rank_one kept i e, rank_up kept (i + 1) (length s) (omega arith))

@@ -34,8 +34,8 @@ module _ {V : Type 0} (s : State V) (w z : ℕ) where
   pub few : length s.cells ≤ 255 → length (windowed w z s).cells ≤ 255
   few h = let e = win_length s w z in omega arith
 
-  pub win-native : (m : Meaning V) → AllNative m s.cells → AllNative m (windowed w z s).cells
-  win-native m h = native_take m z (drop w s.cells) (λ i v e. h (w + i) v (sym (get_or-drop w s.cells i None) ∙ e))
+  pub win_native : (m : Meaning V) → AllNative m s.cells → AllNative m (windowed w z s).cells
+  win_native m h = native_take m z (drop w s.cells) (λ i v e. h (w + i) v (sym (get_or-drop w s.cells i None) ∙ e))
 
   module _ (c : ℕ) (h : c < length (windowed w z s).cells) where
     inside : w + c < length s.cells
@@ -66,34 +66,34 @@ module _ {V : Type 0} (s : State V) (w z : ℕ) where
         let q = lt-ltb (w + c) (length s.cells) inside in
         content_ok (slice_index_or s.cells (w + c) None) (w + c) c v (simp q at e) ∙ sym read_same
 
-    pub read-err : (f : Refusal) → Err f ≡ reading s (w + c) → Err (CellEmpty c) ≡ reading (windowed w z s) c
-    read-err f e =
+    pub read_err : (f : Refusal) → Err f ≡ reading s (w + c) → Err (CellEmpty c) ≡ reading (windowed w z s) c
+    read_err f e =
         let q = lt-ltb (w + c) (length s.cells) inside in
         content_err (slice_index_or s.cells (w + c) None) (w + c) c f (simp q at e) ∙ sym read_same
 
   module _ (m : Meaning V) (c : ℕ) (v : V) (l : Loads m (windowed w z s) c v) where
     -- a load that the window accepts is accepted below
-    pub loads-below : Loads m s (w + c) v
-    loads-below = record { cell = inside c l.cell; native = l.native }
+    pub loads_below : Loads m s (w + c) v
+    loads_below = record { cell = inside c l.cell; native = l.native }
 
-    pub loaded-below : windowed w z (loaded s (w + c) v) ≡ loaded (windowed w z s) c v
-    loaded-below = ap (λ (cells : List (Option V)). record { cells = cells; left = s.left; log = None }) (win_set c l.cell (Some v))
+    pub loaded_below : windowed w z (loaded s (w + c) v) ≡ loaded (windowed w z s) c v
+    loaded_below = ap (λ (cells : List (Option V)). record { cells = cells; left = s.left; log = None }) (win_set c l.cell (Some v))
 
   module _ (to a b : ℕ) (l : Multiplies (windowed w z s) to a b) where
     -- a multiplication that the window accepts is accepted below
     pub multiplies_below : Multiplies s (w + to) (w + a) (w + b)
     multiplies_below = record {
-      to_there = inside to l.to-there;
-      a_there = inside a l.a-there;
+      to_there = inside to l.to_there;
+      a_there = inside a l.a_there;
       b_there = inside b l.b_there;
-      a_filled = sym (ap is_some (win_at a l.a-there)) ∙ l.a-filled;
-      b_filled = sym (ap is_some (win_at b l.b_there)) ∙ l.b-filled;
+      a_filled = sym (ap is_some (win_at a l.a_there)) ∙ l.a_filled;
+      b_filled = sym (ap is_some (win_at b l.b_there)) ∙ l.b_filled;
       some = l.some;
     }
 
-    pub multiplied-below : (m : Meaning V) → windowed w z (multiplied m s (w + to) (w + a) (w + b)) ≡ multiplied m (windowed w z s) to a b
-    multiplied-below m =
+    pub multiplied_below : (m : Meaning V) → windowed w z (multiplied m s (w + to) (w + a) (w + b)) ≡ multiplied m (windowed w z s) to a b
+    multiplied_below m =
         let held : both m.times (slice_index_or s.cells (w + a) None) (slice_index_or s.cells (w + b) None) ≡ both m.times (slice_index_or (windowed w z s).cells a None) (slice_index_or (windowed w z s).cells b None) =
-        rw (win_at a l.a-there, win_at b l.b_there) in
+        rw (win_at a l.a_there, win_at b l.b_there) in
         ap (λ (cells : List (Option V)). record { cells = cells; left = s.left - 1; log = None })
-        (win_set to l.to-there (both m.times (slice_index_or s.cells (w + a) None) (slice_index_or s.cells (w + b) None)) ∙ ap (set (windowed w z s).cells to) held)
+        (win_set to l.to_there (both m.times (slice_index_or s.cells (w + a) None) (slice_index_or s.cells (w + b) None)) ∙ ap (set (windowed w z s).cells to) held)

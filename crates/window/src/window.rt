@@ -48,9 +48,9 @@ impl<U: Unit> Kind for Window<U> {
 
     ghost kind = { λ q. U.Kind.kind q.below };
 
-    ghost closed = { Prim.search rules };
+    ghost closed = { λ q. U.Kind.closed q.below };
 
-    ghost assoc = { Prim.search rules };
+    ghost assoc = { λ q. U.Kind.assoc q.below };
 
     fn is_native(&self, v: U::Value) -> bool {
         self.below.is_native(v)

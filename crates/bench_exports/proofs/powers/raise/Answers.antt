@@ -2,7 +2,7 @@ use Rattle.std.proofs.Common.{◌≡◌, ℕ, List, length, take, replicate, sym
 use Rattle.std.proofs.lemmas.List.{length-take-le}
 use Rattle.plans.specs.declared.step.Step.{Step}
 use Rattle.plans.specs.Chain.{Chain}
-use Rattle.bench_exports.proofs.Raising.{raised-refused, raised-made}
+use Rattle.bench_exports.proofs.Raising.{raised_refused, raised_made}
 use Rattle.bench_exports.proofs.powers.raise.Goals as goal
 
 pub returns-in-err-straight-run : goal.returns-in-err-straight-run
@@ -11,7 +11,7 @@ returns-in-err-straight-run c =
     let steps : List Step = c.admit.new.self.steps.now in
     let chain : Chain n steps = subst (Chain n) (sym c.in-ok-admit.ensures.after.1) (c.in-ok-admit.ensures.exactly.0 refl) in
     record {
-      value = raised-refused c.args.kind.now.modulus c.args.base n steps chain _ _ c.in-err-straight-run.ensures.answer
+      value = raised_refused c.args.kind.now.modulus c.args.base n steps chain _ _ c.in-err-straight-run.ensures.answer
           c.from-residual-in-err-straight-run.ensures.1;
     }
 
@@ -24,6 +24,6 @@ returns c =
     let len : c.in-ok-len.len ≡ length steps =
     sym (ap length same ∙ length-take-le c.in-ok-len.len c.left-to-right.new.table (omega (arith, c.in-ok-len.ensures.within, c.left-to-right.auto.table))) in
     record {
-      value = raised-made c.args.kind.now.modulus c.args.base n steps chain c.in-ok-len.len _ (replicate 129 c.args.base) _ len refl
+      value = raised_made c.args.kind.now.modulus c.args.base n steps chain c.in-ok-len.len _ (replicate 129 c.args.base) _ len refl
           c.in-ok-straight-run.ensures.answer c.in-ok-straight-run.ensures.after;
     }

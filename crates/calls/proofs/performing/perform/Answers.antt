@@ -2,7 +2,7 @@ use Rattle.std.proofs.Common.{◌≡◌, ℕ, ◌<◌, ◌≤◌, List, length, 
 use Rattle.kinds.specs.Kinds.{Meaning}
 use Rattle.calls.specs.declared.call.Call.{Call}
 use Rattle.calls.specs.Lists.{setting, Performed, turns}
-use Rattle.calls.proofs.Events.{list_short, list_made, performed-more, drop_more, law-of}
+use Rattle.calls.proofs.Events.{list_short, list_made, performed_more, drop_more, law_of}
 use Rattle.calls.proofs.performing.perform.Goals as goal
 
 pub returns-then-answers-calls : goal.returns-then-answers-calls
@@ -23,7 +23,7 @@ loop-i-preserved g c =
     let i = c.loop-i.i in
     let u = c.args.unit.now in
     let inv = c.loop-i.invariant in (
-      performed-more (g.U.Kind.kind u) (g.U.Kind.kind c.loop-i.unit) (length c.args.table.now) (length c.loop-i.table)
+      performed_more (g.U.Kind.kind u) (g.U.Kind.kind c.loop-i.unit) (length c.args.table.now) (length c.loop-i.table)
           (setting (g.U.Unit.state u) c.args.table.now) (setting (g.U.Unit.state c.loop-i.unit) c.loop-i.table) (setting (g.U.Unit.state c.perform-call.new.unit) c.perform-call.new.table)
           c.args.calls.now c.loop-i.answers i c.index-calls-i.result c.perform-call.result
           inv.2 (omega arith) (omega arith) (omega arith) c.index-calls-i.is inv.0 c.perform-call.ensures.made,
@@ -47,7 +47,7 @@ returns g c =
     record {
       answer = list_made (length calls) (length c.args.answers.now) (omega arith);
       each = done;
-      law = law-of m room first (turns calls c.loop-i.answers) last done;
+      law = law_of m room first (turns calls c.loop-i.answers) last done;
       rest = subst (λ (n : ℕ). drop n c.loop-i.answers ≡ drop n c.args.answers.now) end inv.1;
       refused = (tt, tt, tt);
       same = inv.2;

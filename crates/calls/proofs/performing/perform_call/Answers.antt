@@ -2,7 +2,7 @@ use Rattle.std.proofs.Common.{◌≡◌, List, length, refl, rules}
 use Rattle.plans.specs.declared.step.Step.{Step}
 use Rattle.calls.specs.declared.act.Answer.TheVariants.{Loaded, Got, Power, Carried}
 use Rattle.calls.specs.Lists.{setting, Made}
-use Rattle.calls.proofs.Events.{law-of-one}
+use Rattle.calls.proofs.Events.{law_of_one}
 use Rattle.calls.proofs.performing.perform_call.Goals as goal
 
 pub returns-in-Load : goal.returns-in-Load
@@ -13,7 +13,7 @@ returns-in-Load g c =
     let before = setting s table in
     let after = setting (g.U.Unit.state c.load.new.self) table in
     let done : Made m (length table) c.args.call.now before (Loaded c.load.result) after = search rules in
-    record { made = done; law = law-of-one m (length table) before c.args.call.now (Loaded c.load.result) after done; refused = c.load.ensures.refused; same = c.load.ensures.same }
+    record { made = done; law = law_of_one m (length table) before c.args.call.now (Loaded c.load.result) after done; refused = c.load.ensures.refused; same = c.load.ensures.same }
 
 pub returns-in-Read : goal.returns-in-Read
 returns-in-Read g c =
@@ -23,7 +23,7 @@ returns-in-Read g c =
     let before = setting s table in
     let after = setting (s) table in
     let done : Made m (length table) c.args.call.now before (Got c.read.result) after = search rules in
-    record { made = done; law = law-of-one m (length table) before c.args.call.now (Got c.read.result) after done; refused = refl; same = refl }
+    record { made = done; law = law_of_one m (length table) before c.args.call.now (Got c.read.result) after done; refused = refl; same = refl }
 
 pub returns-in-Run : goal.returns-in-Run
 returns-in-Run g c =
@@ -33,7 +33,7 @@ returns-in-Run g c =
     let before = setting s table in
     let after = setting (g.U.Unit.state c.run.new.unit) table in
     let done : Made m (length table) c.args.call.now before (Power c.run.result) after = search rules in
-    record { made = done; law = law-of-one m (length table) before c.args.call.now (Power c.run.result) after done; refused = c.run.ensures.refused; same = c.run.ensures.same }
+    record { made = done; law = law_of_one m (length table) before c.args.call.now (Power c.run.result) after done; refused = c.run.ensures.refused; same = c.run.ensures.same }
 
 pub returns-in-Job : goal.returns-in-Job
 returns-in-Job g c =
@@ -43,4 +43,4 @@ returns-in-Job g c =
     let before = setting s table in
     let after = setting (g.U.Unit.state c.job.new.unit) c.job.new.table in
     let done : Made m (length table) c.args.call.now before (Carried c.job.result) after = search rules in
-    record { made = done; law = law-of-one m (length table) before c.args.call.now (Carried c.job.result) after done; refused = c.job.ensures.refused; same = c.job.ensures.same }
+    record { made = done; law = law_of_one m (length table) before c.args.call.now (Carried c.job.result) after done; refused = c.job.ensures.refused; same = c.job.ensures.same }

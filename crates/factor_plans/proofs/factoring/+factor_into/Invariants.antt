@@ -1,4 +1,4 @@
 use Rattle.factor_plans.proofs.factoring.+factor_into.Given as goal
 
-abbrev pub decreases-factor-into : goal.decreases-factor-into
-decreases-factor-into l = l.n
+abbrev pub decreases-factor_into : goal.decreases-factor_into
+decreases-factor_into l = l.n

@@ -4,7 +4,7 @@ use Rattle.refusals.proofs.Answered.{exit_is, unchanged_err}
 use Rattle.plans.specs.declared.step.Step.{Step}
 use Rattle.sheets.specs.Reading.{read_sheet, counted, filled}
 use Rattle.jobs.specs.declared.stage.Stage.TheVariants.{Reading, Admission, Running}
-use Rattle.jobs.proofs.Stages.{read_left, read_is, read_fits, on_ok, unread-answer, unread-after, stopped-answer, stopped-after, worked-answer, worked-after, as_asked, kept_on}
+use Rattle.jobs.proofs.Stages.{read_left, read_is, read_fits, on_ok, unread_answer, unread_after, stopped_answer, stopped_after, worked_answer, worked_after, as_asked, kept_on}
 use Rattle.fitting.specs.Fitting.{fit_answer, FitsUnit, trimmed_in, PlacedIn, exponents_in}
 use Rattle.fitting.proofs.fitter.fit.Goals as goal
 
@@ -33,9 +33,9 @@ returns-in-err-count g c =
     let said : c.read.result ≡ counted sheet = c.read.ensures.answer ∙ ap counted same in
     let out = exit_is c.from-residual.result e c.from-residual.ensures.1 in
     record {
-      answer = out ∙ unread-answer sheet n c.read.result e said on (λ l. fit_answer m s n l x);
-      after = unread-after sheet n c.read.result e said on (s ≡ s) (λ l. FitsUnit m s n l x (fit_answer m s n l x) s) refl;
-      tables = (c.read.ensures.after ∙ ap (λ r. filled r table) same, unread-after sheet n c.read.result e said on _ _ (refl, refl, refl));
+      answer = out ∙ unread_answer sheet n c.read.result e said on (λ l. fit_answer m s n l x);
+      after = unread_after sheet n c.read.result e said on (s ≡ s) (λ l. FitsUnit m s n l x (fit_answer m s n l x) s) refl;
+      tables = (c.read.ensures.after ∙ ap (λ r. filled r table) same, unread_after sheet n c.read.result e said on _ _ (refl, refl, refl));
       refused = unchanged_err c.from-residual.result e u u out refl;
       same = refl;
     }
@@ -60,9 +60,9 @@ returns-in-err-at-stage g c =
     let on = c.in-err-at-stage.ensures.value in
     let out = exit_is c.from-residual-in-err-at-stage.result e c.from-residual-in-err-at-stage.ensures.1 in
     record {
-      answer = out ∙ stopped-answer sheet n steps is c.admit.result c.admit.ensures.answer e on (λ l. fit_answer m s n l x);
-      after = stopped-after sheet n steps is c.admit.result c.admit.ensures.answer e on (s ≡ s) (λ l. FitsUnit m s n l x (fit_answer m s n l x) s) refl;
-      tables = (left, stopped-after sheet n steps is c.admit.result c.admit.ensures.answer e on _ _ (refl, refl, refl));
+      answer = out ∙ stopped_answer sheet n steps is c.admit.result c.admit.ensures.answer e on (λ l. fit_answer m s n l x);
+      after = stopped_after sheet n steps is c.admit.result c.admit.ensures.answer e on (s ≡ s) (λ l. FitsUnit m s n l x (fit_answer m s n l x) s) refl;
+      tables = (left, stopped_after sheet n steps is c.admit.result c.admit.ensures.answer e on _ _ (refl, refl, refl));
       refused = unchanged_err c.from-residual-in-err-at-stage.result e u u out refl;
       same = refl;
     }
@@ -97,9 +97,9 @@ returns g c =
     let wrote = as_asked (λ _ l. (did.new.table ≡ trimmed_in l was.trimmed) × PlacedIn l was.cells did.new.cells × (did.new.exponents ≡ exponents_in l was.exponents))
     k n part steps held.0 held.1 (did.ensures.table, did.ensures.cells, did.ensures.exponents) in
     record {
-      answer = worked-answer sheet n steps is c.admit.result c.admit.ensures.answer c.in-ok-at-stage.field-0 on (λ l. fit_answer m s n l x) r c.at-stage-3.result ran c.at-stage-3.ensures.value;
-      after = worked-after sheet n steps is c.admit.result c.admit.ensures.answer c.in-ok-at-stage.field-0 on (t ≡ s) (λ l. FitsUnit m s n l x (fit_answer m s n l x) t) fits;
-      tables = (left, worked-after sheet n steps is c.admit.result c.admit.ensures.answer c.in-ok-at-stage.field-0 on _ _ wrote);
+      answer = worked_answer sheet n steps is c.admit.result c.admit.ensures.answer c.in-ok-at-stage.field-0 on (λ l. fit_answer m s n l x) r c.at-stage-3.result ran c.at-stage-3.ensures.value;
+      after = worked_after sheet n steps is c.admit.result c.admit.ensures.answer c.in-ok-at-stage.field-0 on (t ≡ s) (λ l. FitsUnit m s n l x (fit_answer m s n l x) t) fits;
+      tables = (left, worked_after sheet n steps is c.admit.result c.admit.ensures.answer c.in-ok-at-stage.field-0 on _ _ wrote);
       refused = kept_on Running r c.at-stage-3.result u did.new.unit c.at-stage-3.ensures.value did.ensures.refused;
       same = did.ensures.same;
     }

@@ -8,14 +8,14 @@ use Rattle.kinds.specs.Powers.{power}
 use Rattle.run_laws.specs.Runs.{run_fault}
 use Rattle.fitting.specs.Fitting.{rehearsal_fault}
 use Rattle.refusals.proofs.Answered.{answer_none, answer_some, answer_value, exit_is, unchanged_err}
-use Rattle.fitting.proofs.Trims.{trim-never, trim-length, front-is, admit-never, place_never, start_is, placed, rehearsed, not-rehearsed, not-run, fits, unit_kept, unit-run}
+use Rattle.fitting.proofs.Trims.{trim_never, trim_length, front_is, admit_never, place_never, start_is, placed, rehearsed, not_rehearsed, not_run, fits, unit_kept, unit_run}
 use Rattle.fitting.proofs.fitter.fit_plan.Goals as goal
 
 pub returns-in-err-length : goal.returns-in-err-length
 returns-in-err-length g c =
     let plan = c.args.plan.now in
     let room : length c.args.table.now ≡ 128 = omega arith in
-    trim-never plan.exponent plan.steps.now (chain_of_lem plan) (length c.args.table.now) c.in-err-length.field-0.0 room c.in-err-length.ensures.answer
+    trim_never plan.exponent plan.steps.now (chain_of_lem plan) (length c.args.table.now) c.in-err-length.field-0.0 room c.in-err-length.ensures.answer
 
 pub returns-in-err-admit : goal.returns-in-err-admit
 returns-in-err-admit g c =
@@ -24,9 +24,9 @@ returns-in-err-admit g c =
     let told = c.in-ok-length.ensures in
     let k : ℕ = c.in-ok-length.length in
     let part : take (k - 0) c.trim.new.table ≡ trimmed plan.steps.now =
-    front-is plan.exponent plan.steps.now (chain_of_lem plan) k c.args.table.now c.trim.new.table
-    (trim-length plan.exponent plan.steps.now (chain_of_lem plan) (length c.args.table.now) k room told.answer) told.after in
-    admit-never plan.exponent plan.steps.now (chain_of_lem plan) c.exponent.result (take (k - 0) c.trim.new.table) c.in-err-admit.field-0.0 c.exponent.ensures part c.in-err-admit.ensures.exactly
+    front_is plan.exponent plan.steps.now (chain_of_lem plan) k c.args.table.now c.trim.new.table
+    (trim_length plan.exponent plan.steps.now (chain_of_lem plan) (length c.args.table.now) k room told.answer) told.after in
+    admit_never plan.exponent plan.steps.now (chain_of_lem plan) c.exponent.result (take (k - 0) c.trim.new.table) c.in-err-admit.field-0.0 c.exponent.ensures part c.in-err-admit.ensures.exactly
 
 pub returns-in-err-place : goal.returns-in-err-place
 returns-in-err-place g c =
@@ -48,8 +48,8 @@ returns-in-err-rehearse g c =
     let told = c.in-ok-length.ensures in
     let k : ℕ = c.in-ok-length.length in
     let is : short ≡ trimmed steps =
-    c.in-ok-admit.ensures.after.1 ∙ front-is plan.exponent steps (chain_of_lem plan) k c.args.table.now c.trim.new.table
-    (trim-length plan.exponent steps (chain_of_lem plan) (length c.args.table.now) k room told.answer) told.after in
+    c.in-ok-admit.ensures.after.1 ∙ front_is plan.exponent steps (chain_of_lem plan) k c.args.table.now c.trim.new.table
+    (trim_length plan.exponent steps (chain_of_lem plan) (length c.args.table.now) k room told.answer) told.after in
     let u = c.args.unit.now in
     let m = g.U.Kind.kind u in
     let s = g.U.Unit.state u in
@@ -57,7 +57,7 @@ returns-in-err-rehearse g c =
     let out = exit_is c.from-residual-in-err-rehearse.result e c.from-residual-in-err-rehearse.ensures.1 in
     let stopped : rehearsal_fault short ≡ Some e = verdict_some (rehearsal_fault short) e c.in-err-rehearse.ensures.answer in
     record {
-      answer = out ∙ not-rehearsed steps short is m s plan.exponent c.args.base e stopped;
+      answer = out ∙ not_rehearsed steps short is m s plan.exponent c.args.base e stopped;
       after = unit_kept steps short is m s plan.exponent c.args.base c.from-residual-in-err-rehearse.result e s out refl;
       table = told.after;
       cells = placed steps short is c.args.cells.now c.place.new.places c.in-ok-place.ensures.after;
@@ -75,8 +75,8 @@ returns-in-err-power g c =
     let told = c.in-ok-length.ensures in
     let k : ℕ = c.in-ok-length.length in
     let is : short ≡ trimmed steps =
-    c.in-ok-admit.ensures.after.1 ∙ front-is plan.exponent steps (chain_of_lem plan) k c.args.table.now c.trim.new.table
-    (trim-length plan.exponent steps (chain_of_lem plan) (length c.args.table.now) k room told.answer) told.after in
+    c.in-ok-admit.ensures.after.1 ∙ front_is plan.exponent steps (chain_of_lem plan) k c.args.table.now c.trim.new.table
+    (trim_length plan.exponent steps (chain_of_lem plan) (length c.args.table.now) k room told.answer) told.after in
     let u = c.args.unit.now in
     let m = g.U.Kind.kind u in
     let s = g.U.Unit.state u in
@@ -86,7 +86,7 @@ returns-in-err-power g c =
     let fine : rehearsal_fault short ≡ None = verdict_none (rehearsal_fault short) c.in-ok-rehearse.ensures.answer in
     let stopped : run_fault m s short x ≡ Some e = answer_some (run_fault m s short x) e (power m x c.admit.new.self.exponent) c.in-err-power.ensures.answer in
     record {
-      answer = out ∙ not-run steps short is m s plan.exponent x e fine stopped;
+      answer = out ∙ not_run steps short is m s plan.exponent x e fine stopped;
       after = unit_kept steps short is m s plan.exponent x c.from-residual-in-err-power.result e (g.U.Unit.state c.run-on-card.new.unit) out c.in-err-power.ensures.after;
       table = told.after;
       cells = placed steps short is c.args.cells.now c.place.new.places c.in-ok-place.ensures.after;
@@ -105,8 +105,8 @@ returns g c =
     let k : ℕ = c.in-ok-length.length in
     let held = c.in-ok-admit.ensures.after in
     let is : short ≡ trimmed steps =
-    held.1 ∙ front-is plan.exponent steps (chain_of_lem plan) k c.args.table.now c.trim.new.table
-    (trim-length plan.exponent steps (chain_of_lem plan) (length c.args.table.now) k room told.answer) told.after in
+    held.1 ∙ front_is plan.exponent steps (chain_of_lem plan) k c.args.table.now c.trim.new.table
+    (trim_length plan.exponent steps (chain_of_lem plan) (length c.args.table.now) k room told.answer) told.after in
     let size : c.admit.new.self.exponent ≡ plan.exponent = held.0 ∙ c.exponent.ensures in
     let u = c.args.unit.now in
     let m = g.U.Kind.kind u in
@@ -122,7 +122,7 @@ returns g c =
     let left : c.allowance.result ≡ s.left - length short = omega (arith, spent, c.allowance.ensures.value) in
     record {
       answer = fits steps short is m s plan.exponent x c.measure.result c.measure-size.result y c.allowance.result fine able c.measure.ensures.value c.measure-size.ensures.value value left;
-      after = unit-run steps short is m s plan.exponent x c.admit.new.self.exponent y t size ran.after;
+      after = unit_run steps short is m s plan.exponent x c.admit.new.self.exponent y t size ran.after;
       table = told.after;
       cells = placed steps short is c.args.cells.now c.place.new.places c.in-ok-place.ensures.after;
       exponents = rehearsed steps short is c.args.exponents.now c.rehearse.new.exponents c.in-ok-rehearse.ensures.after;

@@ -1,7 +1,7 @@
 use Rattle.std.proofs.Common.{◌≡◌, ℕ, ◌+◌, ◌^◌, ◌<◌, ◌≤◌, List, length, get_or, take, set, sym, refl, ap, ◌∙◌, subst, arith, length-set, length-take}
 use Rattle.units.specs.declared.record.Record.{Record}
 use Rattle.run_laws.specs.Traces.{sums, one_in, sum_of}
-use Rattle.fitting.proofs.Working.{Worked, none-missing, sum-at, worked-one, worked-all}
+use Rattle.fitting.proofs.Working.{Worked, none_missing, sum_at, worked_one, worked_all}
 use Rattle.fitting.proofs.records.work_records.Goals as goal
 
 pub unreachable-requires : goal.unreachable-requires
@@ -9,7 +9,7 @@ unreachable-requires c =
     let b = c.args.sheet.now in
     let within : b.len ≤ length b.records = omega arith in
     let long : length (take b.len b.records) ≡ b.len = simp length-take (omega arith) in
-    none-missing b.records b.len within c.loop-i.i (omega (arith, c.len-i-end.ensures.value)) c.in-None.ensures.value
+    none_missing b.records b.len within c.loop-i.i (omega (arith, c.len-i-end.ensures.value)) c.in-None.ensures.value
 
 pub overflow-add-sum : goal.overflow-add-sum
 overflow-add-sum c =
@@ -18,7 +18,7 @@ overflow-add-sum c =
     let whole : List ℕ = sums (one_in 32 c.args.start) (take b.len b.records) in
     let within : b.len ≤ length b.records = omega arith in
     let long : length (take b.len b.records) ≡ b.len = simp length-take (omega arith) in
-    let at = sum-at b.records b.len within whole c.args.out.now c.loop-i.out c.loop-i.cells c.loop-i.i r (omega (arith, c.len-i-end.ensures.value)) (omega (arith, c.loop-i.invariant.1)) c.in-Some.ensures.value c.loop-i.invariant.2 in
+    let at = sum_at b.records b.len within whole c.args.out.now c.loop-i.out c.loop-i.cells c.loop-i.i r (omega (arith, c.len-i-end.ensures.value)) (omega (arith, c.loop-i.invariant.1)) c.in-Some.ensures.value c.loop-i.invariant.2 in
     omega (arith, at, c.requires.small c.loop-i.i, c.number-in.ensures.value, c.number-in-in-Some.ensures.value)
 
 pub loop-i-preserved : goal.loop-i-preserved
@@ -28,7 +28,7 @@ loop-i-preserved c =
     let whole : List ℕ = sums (one_in 32 c.args.start) (take b.len b.records) in
     let within : b.len ≤ length b.records = omega arith in
     let long : length (take b.len b.records) ≡ b.len = simp length-take (omega arith) in
-    let one = worked-one b.records b.len within whole c.args.out.now c.loop-i.out c.loop-i.cells c.loop-i.i r (omega (arith, c.len-i-end.ensures.value)) (omega (arith, c.loop-i.invariant.1)) c.in-Some.ensures.value c.loop-i.invariant.2 in
+    let one = worked_one b.records b.len within whole c.args.out.now c.loop-i.out c.loop-i.cells c.loop-i.i r (omega (arith, c.len-i-end.ensures.value)) (omega (arith, c.loop-i.invariant.1)) c.in-Some.ensures.value c.loop-i.invariant.2 in
     let sum : c.number-in.result + c.number-in-in-Some.result ≡ sum_of c.loop-i.cells r =
     ap (λ (z : ℕ). z + c.number-in-in-Some.result) c.number-in.ensures.value ∙ ap (λ (z : ℕ). get_or c.loop-i.cells r.a 0 + z) c.number-in-in-Some.ensures.value in
     let put : c.put-number-in-Some.new.cells ≡ set c.loop-i.cells r.to (sum_of c.loop-i.cells r) =
@@ -46,6 +46,6 @@ returns c =
     let within : b.len ≤ length b.records = omega arith in
     let long : length (take b.len b.records) ≡ b.len = simp length-take (omega arith) in
     record {
-      after = worked-all b.records b.len within whole c.args.out.now c.loop-i.out c.loop-i.cells c.loop-i.i
+      after = worked_all b.records b.len within whole c.args.out.now c.loop-i.out c.loop-i.cells c.loop-i.i
           (omega (arith, c.len-i-end.ensures.value, c.loop-i-test.false)) (omega (arith, c.len-i-end.ensures.value, c.loop-i.auto.i-end)) c.loop-i.invariant.2;
     }

@@ -13,7 +13,7 @@ use Rattle.run_sheet.specs.RunSheets.{sheeted}
 use Rattle.run_laws.specs.Runs.{run_fault}
 use Rattle.fitting.specs.Fitting.{rehearsal_fault, rehearsed_in}
 use Rattle.refusals.proofs.Answered.{answer_none, answer_some, settle_none}
-use Rattle.fitting.proofs.Rehearsed.{one_count, outset, outset_is, fault_is, few, sums-small, front-is}
+use Rattle.fitting.proofs.Rehearsed.{one_count, outset, outset_is, fault_is, few, sums_small, front_is}
 use Rattle.fitting.proofs.rehearsal.rehearse.Goals as goal
 
 pub returns-in-err-run : goal.returns-in-err-run
@@ -43,7 +43,7 @@ work-records-requires c =
     let done = c.in-ok-run.ensures.after in
     record {
       few = few plan.exponent plan.steps.now (chain_of_lem plan) s begun c.in-ok-run.field-0.value t done d.records d.len refl within;
-      small = sums-small plan.exponent plan.steps.now (chain_of_lem plan) s begun c.in-ok-run.field-0.value t done d.records d.len refl within c.args.start c.requires;
+      small = sums_small plan.exponent plan.steps.now (chain_of_lem plan) s begun c.in-ok-run.field-0.value t done d.records d.len refl within c.args.start c.requires;
     }
 
 pub returns : goal.returns
@@ -60,6 +60,6 @@ returns c =
     record {
       answer = sym (ap verdict fine);
       after = c.work-records.ensures.after
-          ∙ front-is plan.exponent plan.steps.now (chain_of_lem plan) s begun c.in-ok-run.field-0.value t c.in-ok-run.ensures.after d.records d.len refl within c.args.start c.requires c.args.exponents.now
+          ∙ front_is plan.exponent plan.steps.now (chain_of_lem plan) s begun c.in-ok-run.field-0.value t c.in-ok-run.ensures.after d.records d.len refl within c.args.start c.requires c.args.exponents.now
           ∙ settle_none (rehearsal_fault plan.steps.now) c.args.exponents.now _ fine;
     }

@@ -10,13 +10,13 @@ pub loop-s-preserved : goal.loop-s-preserved
 loop-s-preserved c =
     let s : ℕ = c.loop-s.s in
     let used : ℕ = c.loop-s.used in
-    let x : ℕ = c.free-cell-x.result in
-    let found = c.free-cell-x.ensures in
+    let x : ℕ = c.free_cell-x.result in
+    let found = c.free_cell-x.ensures in
     let looked : c.from.result ≡ used = omega arith in
     let more : max used (x + 1) ≡ c.max-used.result = omega arith in
     subst (Filled _ _ _ _) more
-    (filled_next c.args.plan.now.steps.now s c.loop-s.cells c.loop-s.until used c.from.result x (get_or c.last-citations-last.result s 0)
-    looked (omega arith) (omega arith) (c.last-citations-last.ensures s (omega arith)) found.within found.taken found.free c.loop-s.invariant)
+    (filled_next c.args.plan.now.steps.now s c.loop-s.cells c.loop-s.until used c.from.result x (get_or c.last_citations-last.result s 0)
+    looked (omega arith) (omega arith) (c.last_citations-last.ensures s (omega arith)) found.within found.taken found.free c.loop-s.invariant)
 
 pub returns : goal.returns
 returns c =

@@ -4,8 +4,8 @@ use Rattle.placing.proofs.Supply.{supplied_cells_lem}
 use Rattle.placing.proofs.Fits.{fits_exactly}
 use Rattle.placing.proofs.place.place.Goals as goal
 
-pub returns-then-places-lt-MOST-VALUES : goal.returns-then-places-lt-MOST-VALUES
-returns-then-places-lt-MOST-VALUES c =
+pub returns-then-places-lt-MOST_VALUES : goal.returns-then-places-lt-MOST_VALUES
+returns-then-places-lt-MOST_VALUES c =
     let few : length c.args.places.now < 129 = omega arith in
     record { answer = placed_short _ _ _ few; after = refl; supplied = supplied_cells_lem _; exactly = fits_exactly _ }
 
@@ -21,7 +21,7 @@ returns c =
     let within : c.arrange-arranged.result.used ≤ c.args.cells = omega arith in
     record {
       answer = placed_ok _ _ _ _ enough c.arrange-arranged.ensures.used within;
-      after = leaves_ok _ _ _ _ _ c.arrange-arranged.result.used (omega arith) c.copy-from-slice.ensures.after c.arrange-arranged.ensures.cells;
+      after = leaves_ok _ _ _ _ _ c.arrange-arranged.result.used (omega arith) c.copy_from_slice.ensures.after c.arrange-arranged.ensures.cells;
       supplied = supplied_cells_lem _;
       exactly = fits_exactly _;
     }

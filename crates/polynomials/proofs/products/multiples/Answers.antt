@@ -13,8 +13,8 @@ loop-h-init c = (
       (sym (times_zero c.args.a)) (c.from.ensures ∙ sym (times_one c.args.a)),
 )
 
-pub overflow-mul-twice : goal.overflow-mul-twice
-overflow-mul-twice c =
+pub overflow_mul-twice : goal.overflow_mul-twice
+overflow_mul-twice c =
     let e : get_or c.loop-h.row c.loop-h.h 0 ≡ times c.args.a c.loop-h.h = c.loop-h.invariant.1 c.loop-h.h (omega arith) in
     let l : times c.args.a c.loop-h.h < 2 ^ 66 = times_lt 3 63 c.args.a c.loop-h.h (omega arith) (omega arith) in
     omega (arith, e, l)

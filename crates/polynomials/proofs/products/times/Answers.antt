@@ -10,8 +10,8 @@ loop-i-init c =
     let e : c.args.b / 2 ^ 64 ≡ 0 = omega arith in
     sym (ap (times c.args.a) e ∙ times_zero c.args.a)
 
-pub overflow-mul-product : goal.overflow-mul-product
-overflow-mul-product c =
+pub overflow_mul-product : goal.overflow_mul-product
+overflow_mul-product c =
     let l : c.args.b / 2 ^ (4 * c.loop-i.i) < 2 ^ 60 = high_part c.args.b c.loop-i.i (omega arith) (omega arith) in
     let k : times c.args.a (c.args.b / 2 ^ (4 * c.loop-i.i)) < 2 ^ 123 =
     times_lt 60 63 c.args.a (c.args.b / 2 ^ (4 * c.loop-i.i)) (omega arith) l in

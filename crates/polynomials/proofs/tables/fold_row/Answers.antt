@@ -5,7 +5,7 @@ use Rattle.bits.specs.Bits.{top}
 use Rattle.polynomial_ring.specs.Polynomials.{times, rem}
 use Rattle.polynomial_ring.proofs.Products.{times_zero}
 use Rattle.polynomial_ring.proofs.Remainders.{rem_lt, rem_below}
-use Rattle.polynomial_ring.proofs.Windows.{times_one, row_first, row_more, entry-even, entry-odd}
+use Rattle.polynomial_ring.proofs.Windows.{times_one, row_first, row_more, entry_even, entry_odd}
 use Rattle.polynomials.proofs.tables.fold_row.Goals as goal
 
 pub loop-h-init : goal.loop-h-init
@@ -39,8 +39,8 @@ loop-h-preserved c =
     let y : ℕ = c.shifted-y.result in
     let long : length row ≡ 16 = c.loop-h.invariant.0 in
     let even : y ≡ rem f (times u (2 * h)) =
-    entry-even f pos u h (get_or row h 0) y (c.loop-h.invariant.1 h (omega arith)) c.shifted-y.ensures in (
+    entry_even f pos u h (get_or row h 0) y (c.loop-h.invariant.1 h (omega arith)) c.shifted-y.ensures in (
       length-set (set row (2 * h) y) (2 * h + 1) (bit_xor y u) ∙ length-set row (2 * h) y ∙ long,
       row_more (λ m x. x ≡ rem f (times u m)) row h y (bit_xor y u) (omega arith) c.loop-h.invariant.1 even
-          (entry-odd f pos u h y c.requires.1.1 even),
+          (entry_odd f pos u h y c.requires.1.1 even),
     )

@@ -5,23 +5,23 @@ use Rattle.std.proofs.lemmas.Bool.{cases_eq}
 use Rattle.bits.specs.Bits.{top}
 use Rattle.polynomial_ring.specs.Polynomials.{rem}
 use Rattle.polynomial_ring.proofs.Remainders.{rem_lt}
-use Rattle.polynomial_ring.proofs.Windows.{entry, unit-first, unit-next}
+use Rattle.polynomial_ring.proofs.Windows.{entry, unit_first, unit_next}
 use Rattle.polynomials.proofs.tables.fold_rows.Goals as goal
 
 pub loop-k-init : goal.loop-k-init
 loop-k-init c =
     let f : ℕ = c.args.f in
     let e : top f ≡ top f + 0 = omega arith in
-    (refl, ap (λ (x : ℕ). bit_xor x f) c.requires.1 ∙ unit-first f (omega arith) ∙ ap (λ (x : ℕ). rem f (2 ^ x)) e, λ j h l m. absurd (omega arith))
+    (refl, ap (λ (x : ℕ). bit_xor x f) c.requires.1 ∙ unit_first f (omega arith) ∙ ap (λ (x : ℕ). rem f (2 ^ x)) e, λ j h l m. absurd (omega arith))
 
 native_of : (f x y : ℕ) → 0 < f → x ≡ rem f y → x < 2 ^ top f
 native_of f x y pos e = subst (λ (z : ℕ). z < 2 ^ top f) (sym e) (rem_lt f pos y)
 
-pub fold-row-row-requires : goal.fold-row-row-requires
-fold-row-row-requires c = (c.requires.0, (c.requires.1, native_of c.args.f _ _ (omega arith) c.loop-k.invariant.1))
+pub fold_row-row-requires : goal.fold_row-row-requires
+fold_row-row-requires c = (c.requires.0, (c.requires.1, native_of c.args.f _ _ (omega arith) c.loop-k.invariant.1))
 
 pub shifted-unit-requires : goal.shifted-unit-requires
-shifted-unit-requires c = (c.requires.0, (c.requires.1, native_of c.args.f _ _ (omega arith) (c.fold-row-row.ensures 8 (omega arith))))
+shifted-unit-requires c = (c.requires.0, (c.requires.1, native_of c.args.f _ _ (omega arith) (c.fold_row-row.ensures 8 (omega arith))))
 
 pub loop-k-preserved : goal.loop-k-preserved
 loop-k-preserved c =
@@ -29,19 +29,19 @@ loop-k-preserved c =
     let pos : 0 < f = omega arith in
     let k : ℕ = c.loop-k.k in
     let rows : List (List ℕ) = c.loop-k.rows in
-    let row : List ℕ = c.fold-row-row.result in
+    let row : List ℕ = c.fold_row-row.result in
     let u : ℕ = c.loop-k.unit in
     let n : ℕ = top f + 4 * k in
     let e : n + 4 ≡ top f + 4 * (k + 1) = omega arith in
     let long : length rows ≡ 16 = c.loop-k.invariant.0 in (
       length-set rows k row ∙ long,
-      unit-next f pos n u (get_or row 8 0) c.shifted-unit.result c.loop-k.invariant.1 (c.fold-row-row.ensures 8 (omega arith)) c.shifted-unit.ensures
+      unit_next f pos n u (get_or row 8 0) c.shifted-unit.result c.loop-k.invariant.1 (c.fold_row-row.ensures 8 (omega arith)) c.shifted-unit.ensures
           ∙ ap (λ (x : ℕ). rem f (2 ^ x)) e,
       λ j h l m. elim (cases_eq j k) [
         | inl same ↦
             ap (λ (x : ℕ). get_or (get_or (set rows k row) x []) h 0) same
             ∙ ap (λ (r : List ℕ). get_or r h 0) (get_or-set_same rows k row [] (omega arith))
-            ∙ c.fold-row-row.ensures h m ∙ entry f pos n u h c.loop-k.invariant.1
+            ∙ c.fold_row-row.ensures h m ∙ entry f pos n u h c.loop-k.invariant.1
             ∙ ap (λ (x : ℕ). rem f (h * 2 ^ (top f + 4 * x))) (sym same)
         | inr other ↦ ap (λ (r : List ℕ). get_or r h 0) (get_or-set_other rows k j row [] other) ∙ c.loop-k.invariant.2 j h (omega arith) m
       ],

@@ -4,8 +4,8 @@ use Rattle.bits.proofs.Tops.{top_lt}
 use Rattle.polynomial_ring.proofs.Remainders.{reduce_small, reduce_large}
 use Rattle.polynomials.proofs.tables.shifted.Goals as goal
 
-pub overflow-mul-y : goal.overflow-mul-y
-overflow-mul-y c =
+pub overflow_mul-y : goal.overflow_mul-y
+overflow_mul-y c =
     let k : top c.args.f < 64 = top_lt c.args.f 64 (omega arith) (omega arith) in
     omega (arith, pow_mono {i = suc (top c.args.f)} {j = 64} k)
 

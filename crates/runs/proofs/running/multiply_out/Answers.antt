@@ -2,7 +2,7 @@ use Rattle.std.proofs.Common.{◌≡◌, ℕ, ◌+◌, ◌<◌, ◌≤◌, lengt
 use Rattle.kinds.specs.Powers.{power}
 use Rattle.kinds.proofs.Powers.{Laws}
 use Rattle.run_laws.specs.Runs.{last_value}
-use Rattle.run_laws.proofs.Turns.{turn_passes, turn-next, end_is, end-hands}
+use Rattle.run_laws.proofs.Turns.{turn_passes, turn_next, end_is, end_hands}
 use Rattle.runs.proofs.running.multiply_out.Given as given
 use Rattle.runs.proofs.running.multiply_out.Goals as goal
 
@@ -21,7 +21,7 @@ pub loop-i-preserved : goal.loop-i-preserved
 loop-i-preserved g c =
     let u = c.args.unit.now in
     let steps = c.args.steps.now in (
-      turn-next (g.U.Kind.kind u) (g.U.Unit.state u) (last_value steps) steps c.args.places.now c.requires.0 (laws_of g u) c.requires.1
+      turn_next (g.U.Kind.kind u) (g.U.Unit.state u) (last_value steps) steps c.args.places.now c.requires.0 (laws_of g u) c.requires.1
           c.loop-i.i (g.U.Kind.kind c.loop-i.unit) (g.U.Unit.state c.loop-i.unit) c.loop-i.invariant.1 c.loop-i.invariant.0
           (g.U.Unit.state c.multiply-step.new.unit) (omega arith) c.multiply-step.ensures.after,
       c.multiply-step.ensures.same ∙ c.loop-i.invariant.1,
@@ -33,7 +33,7 @@ returns g c =
     let steps = c.args.steps.now in
     let end : c.loop-i.i ≡ length steps = omega arith in
     record {
-      value = end-hands (g.U.Kind.kind u) (g.U.Unit.state u) (last_value steps) steps c.args.places.now c.requires.0 (laws_of g u) c.requires.1
+      value = end_hands (g.U.Kind.kind u) (g.U.Unit.state u) (last_value steps) steps c.args.places.now c.requires.0 (laws_of g u) c.requires.1
           c.loop-i.i (g.U.Kind.kind c.loop-i.unit) (g.U.Unit.state c.loop-i.unit) c.loop-i.invariant.1 c.loop-i.invariant.0
           end refl c.read.result c.read.ensures.value;
       after = end_is (g.U.Kind.kind u) (g.U.Unit.state u) (last_value steps) steps c.args.places.now c.requires.0 (laws_of g u) c.requires.1

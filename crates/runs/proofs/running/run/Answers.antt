@@ -12,7 +12,7 @@ use Rattle.kinds.specs.Powers.{power}
 use Rattle.kinds.proofs.Powers.{Laws}
 use Rattle.units.specs.Units.{State}
 use Rattle.run_laws.specs.Runs.{run_fault}
-use Rattle.run_laws.proofs.Passed.{load-passes, begun, handed, ended, success}
+use Rattle.run_laws.proofs.Passed.{load_passes, begun, handed, ended, success}
 use Rattle.runs.specs.declared.raised.Raised.{Raised}
 use Rattle.runs.proofs.running.run.Given as given
 use Rattle.runs.proofs.running.run.Goals as goal
@@ -41,7 +41,7 @@ returns-in-err-load g c =
     let u = c.args.unit.now in
     let p = c.args.plan.now in
     let told = c.in-ok-check-run.ensures in
-    absurd (load-passes (g.U.Kind.kind u) (g.U.Unit.state u) p.steps.now c.args.base p.exponent (take (c.len.result + 1 - 0) c.check-run.new.places)
+    absurd (load_passes (g.U.Kind.kind u) (g.U.Unit.state u) p.steps.now c.args.base p.exponent (take (c.len.result + 1 - 0) c.check-run.new.places)
     (chain_of_lem p) (supplied_by p.steps.now c.check-run.new.places c.len.result c.len.ensures.count told.placed) (verdict_none (run_fault (g.U.Kind.kind u) (g.U.Unit.state u) p.steps.now c.args.base) told.answer)
     c.in-err-load.field-0.0 c.in-err-load.ensures.value)
 

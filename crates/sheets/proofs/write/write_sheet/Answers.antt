@@ -5,8 +5,8 @@ use Rattle.sheets.proofs.Writes.{wrote_more}
 use Rattle.sheets.proofs.Reread.{chain_writable, sheet_done}
 use Rattle.sheets.proofs.write.write_sheet.Goals as goal
 
-pub write-line-requires : goal.write-line-requires
-write-line-requires c =
+pub write_line-requires : goal.write_line-requires
+write_line-requires c =
     record {
       room = simp (length-take, length-drop) (omega arith);
       number = omega (arith, c.steps-steps.ensures.chain.short);
@@ -15,8 +15,8 @@ write-line-requires c =
 
 pub loop-i-preserved : goal.loop-i-preserved
 loop-i-preserved c =
-    let long : length c.write-line.new.out ≡ line_bytes = omega (arith, simp (length-take, length-drop) at c.write-line.auto.out) in
-    wrote_more c.steps-steps.result.now c.loop-i.i c.args.out.now c.loop-i.out c.write-line.new.out no_step c.loop-i-test.true c.loop-i.invariant.0 c.loop-i.invariant.1 c.write-line.ensures.after long
+    let long : length c.write_line.new.out ≡ line_bytes = omega (arith, simp (length-take, length-drop) at c.write_line.auto.out) in
+    wrote_more c.steps-steps.result.now c.loop-i.i c.args.out.now c.loop-i.out c.write_line.new.out no_step c.loop-i-test.true c.loop-i.invariant.0 c.loop-i.invariant.1 c.write_line.ensures.after long
 
 pub returns : goal.returns
 returns c =

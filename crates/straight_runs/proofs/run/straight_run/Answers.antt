@@ -2,19 +2,19 @@ use Rattle.std.proofs.Common.{◌≡◌, ◌+◌, length, set, is_some, sym, ap,
 use Rattle.std.proofs.lemmas.List.{length-set}
 use Rattle.kinds.proofs.Powers.{Laws, powers_add}
 use Rattle.straight_runs.specs.Straight.{powers_of}
-use Rattle.straight_runs.proofs.Straight.{Holds, from_base, to_base, turn-some, turn-next, run-done, fault_foreign, fault_short, fault_none, answer_by, after_by}
+use Rattle.straight_runs.proofs.Straight.{Holds, from_base, to_base, turn_some, turn_next, run_done, fault_foreign, fault_short, fault_none, answer_by, after_by}
 use Rattle.straight_runs.proofs.run.straight_run.Given as given
 use Rattle.straight_runs.proofs.run.straight_run.Goals as goal
 
 laws_of : (g : given.Over) (k : g.row.K.Denot) → Laws (g.K.Kind.kind k)
 laws_of g k = record { closed = g.met.K.Kind.closed k; assoc = g.met.K.Kind.assoc k }
 
-pub returns-then-not-is-native : goal.returns-then-not-is-native
-returns-then-not-is-native g c =
+pub returns-then-not-is_native : goal.returns-then-not-is_native
+returns-then-not-is_native g c =
     let m = g.K.Kind.kind c.args.kind.now in
     let was = c.args.powers.now in
     let s = c.args.plan.now.steps.now in
-    let f = fault_foreign m s c.args.base (length was) (sym c.if-not-is-native.ensures.value) in
+    let f = fault_foreign m s c.args.base (length was) (sym c.if-not-is_native.ensures.value) in
     record {
       answer = answer_by m s c.args.base (length was) _ f;
       after = after_by m s c.args.base was _ f;
@@ -26,7 +26,7 @@ returns-then-powers-wanted g c =
     let m = g.K.Kind.kind c.args.kind.now in
     let was = c.args.powers.now in
     let s = c.steps-steps.result.now in
-    let f = fault_short m s c.args.base (length was) (sym c.if-not-is-native.ensures.value) c.if-powers-wanted.true in
+    let f = fault_short m s c.args.base (length was) (sym c.if-not-is_native.ensures.value) c.if-powers-wanted.true in
     simp (← c.steps-steps.ensures.steps)
     (record {
       answer = answer_by m s c.args.base (length was) _ f;
@@ -44,7 +44,7 @@ unwrap-requires g c =
     let now = c.loop-i.powers in
     let f = from_base (λ z. Holds (powers_of m s z) (set was 0 x) now (c.loop-i.i + 1)) was x (omega arith) c.loop-i.invariant in
     ap is_some (c.product.ensures.value
-    ∙ turn-some m (laws_of g k) x (sym c.if-not-is-native.ensures.value) _ s c.steps-steps.ensures.chain (set was 0 x) now c.loop-i.i _ _
+    ∙ turn_some m (laws_of g k) x (sym c.if-not-is_native.ensures.value) _ s c.steps-steps.ensures.chain (set was 0 x) now c.loop-i.i _ _
     c.loop-i-test.true f c.index-powers-step.is c.index-powers-step-in-loop-i.is)
 
 pub loop-i-preserved : goal.loop-i-preserved
@@ -59,7 +59,7 @@ loop-i-preserved g c =
     let v = c.unwrap.result in
     let f = from_base (λ z. Holds (powers_of m s z) (set was 0 x) now (i + 1)) was x (omega arith) c.loop-i.invariant in
     to_base (λ z. Holds (powers_of m s z) (set was 0 x) (set now (i + 1) v) (i + 1 + 1)) was x (omega arith)
-    (turn-next m (laws_of g k) x (sym c.if-not-is-native.ensures.value) _ s c.steps-steps.ensures.chain (set was 0 x) now i _ _ v
+    (turn_next m (laws_of g k) x (sym c.if-not-is_native.ensures.value) _ s c.steps-steps.ensures.chain (set was 0 x) now i _ _ v
     c.loop-i-test.true (omega (arith, length-set was 0 x)) f c.index-powers-step.is c.index-powers-step-in-loop-i.is (sym c.product.ensures.value ∙ c.unwrap.ensures))
 
 pub returns : goal.returns
@@ -71,13 +71,13 @@ returns g c =
     let was = c.args.powers.now in
     let now = c.loop-i.powers in
     let end : c.loop-i.i ≡ length s = omega arith in
-    let native = sym c.if-not-is-native.ensures.value in
+    let native = sym c.if-not-is_native.ensures.value in
     let f = from_base (λ z. Holds (powers_of m s z) (set was 0 x) now (c.loop-i.i + 1)) was x (omega arith) c.loop-i.invariant in
     let none = fault_none m s x (length was) native c.if-powers-wanted.false in
     simp (← c.steps-steps.ensures.steps)
     (record {
       answer = answer_by m s x (length was) _ none;
-      after = run-done m (laws_of g k) x native _ s c.steps-steps.ensures.chain was now c.loop-i.i end f
+      after = run_done m (laws_of g k) x native _ s c.steps-steps.ensures.chain was now c.loop-i.i end f
           ∙ after_by m s x was _ none;
       powers = powers_add m (laws_of g k);
     })

@@ -1,7 +1,7 @@
 use Rattle.std.proofs.Common.{◌≡◌, ℕ, ◌-◌, ◌<◌, List, [], ◌∷◌, length, sym, ap, ◌∙◌, subst, arith}
 use Rattle.trimming.specs.Needed.{has}
 use Rattle.trimming.proofs.Needing.{after, after_all}
-use Rattle.trimming.proofs.Marks.{marked_start, marked-yes, marked-no}
+use Rattle.trimming.proofs.Marks.{marked_start, marked_yes, marked_no}
 use Rattle.trimming.proofs.marking.needed_marks.Goals as goal
 
 pub loop-i-init : goal.loop-i-init
@@ -14,10 +14,10 @@ loop-i-preserved-then-marks-i c =
     let q = c.requires.cites (c.loop-i.i - 1) (omega arith) in
     let jl : j < 129 = omega (arith, c.from.ensures) in
     let kl : k < 129 = omega (arith, c.from.ensures, c.from-then-marks-i.ensures) in
-    marked-yes c.loop-i.marks (length c.args.steps.now ∷ []) c.args.steps.now c.loop-i.i c.loop-i-test.true c.loop-i.auto.i c.requires.short c.loop-i.invariant j k jl kl c.from.ensures c.from-then-marks-i.ensures c.if-marks-i.true
+    marked_yes c.loop-i.marks (length c.args.steps.now ∷ []) c.args.steps.now c.loop-i.i c.loop-i-test.true c.loop-i.auto.i c.requires.short c.loop-i.invariant j k jl kl c.from.ensures c.from-then-marks-i.ensures c.if-marks-i.true
 
 pub loop-i-preserved : goal.loop-i-preserved
-loop-i-preserved c = marked-no c.loop-i.marks (length c.args.steps.now ∷ []) c.args.steps.now c.loop-i.i c.loop-i-test.true c.loop-i.auto.i c.requires.short c.loop-i.invariant c.if-marks-i.false
+loop-i-preserved c = marked_no c.loop-i.marks (length c.args.steps.now ∷ []) c.args.steps.now c.loop-i.i c.loop-i-test.true c.loop-i.auto.i c.requires.short c.loop-i.invariant c.if-marks-i.false
 
 pub returns : goal.returns
 returns c =

@@ -3,5 +3,5 @@ use Rattle.kinds.specs.Counting.{counting}
 use Rattle.banks.proofs.Natives.{none_native}
 use Rattle.banks.proofs.counts_bank.CountsBank.new.Goals as goal
 
-pub invariant-of-result : goal.invariant-of-result
-invariant-of-result c = (refl, (none_native counting 32, tt))
+pub invariant_of-result : goal.invariant_of-result
+invariant_of-result c = record { full = refl; native = none_native counting 32 }

@@ -5,7 +5,7 @@ use Rattle.units.specs.Units.{State, load_fault, loaded}
 use Rattle.units.proofs.Passing.{loads, settles}
 use Rattle.banks.proofs.Natives.{some_native, set_native}
 use Rattle.pile_cases.specs.Ledgers.{ledgered}
-use Rattle.pile_cases.specs.LedgersLemmas.{as_many, inside, loaded-here}
+use Rattle.pile_cases.specs.LedgersLemmas.{as_many, inside, loaded_here}
 use Rattle.pile_cases.proofs.ledger.LedgerUnit.load.Goals as goal
 
 pub invariant-of-self : goal.invariant-of-self
@@ -36,7 +36,7 @@ returns c =
     let below = inside u.places u.size u.left u.rows u.stored fits cell (loads counting s cell v (sym passed)).cell in
     record {
       value = passed;
-      after = loaded-here u.places u.size u.left u.rows u.stored fits cell v below
+      after = loaded_here u.places u.size u.left u.rows u.stored fits cell v below
           ∙ sym (settles (load_fault counting s cell v) s (loaded s cell v) (sym passed));
       same = refl;
       shape = (as_many u.size u.places cell (Some v), refl);

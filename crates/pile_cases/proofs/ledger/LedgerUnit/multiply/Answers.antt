@@ -6,7 +6,7 @@ use Rattle.units.specs.Units.{State, both, multiply_fault, multiplied}
 use Rattle.units.proofs.Passing.{multiplies, handed_on, settles, stays, untouched}
 use Rattle.banks.proofs.Natives.{both_native, set_native}
 use Rattle.pile_cases.specs.Ledgers.{ledgered}
-use Rattle.pile_cases.specs.LedgersLemmas.{counts_closed, as_many, inside, multiplied-here}
+use Rattle.pile_cases.specs.LedgersLemmas.{counts_closed, as_many, inside, multiplied_here}
 use Rattle.pile_cases.proofs.ledger.LedgerUnit.multiply.Goals as goal
 
 pub returns-in-err-check-multiply : goal.returns-in-err-check-multiply
@@ -57,7 +57,7 @@ returns c =
     record {
       value = passed;
       after = ap (λ (o : Option Count). ledgered (set places to o) u.size (u.left - 1) (set u.rows u.stored row) (u.stored + 1)) made
-          ∙ multiplied-here places u.size u.left u.rows u.stored fits counting to a b (here to l.to-there) (here a l.a-there) (here b l.b-there) within
+          ∙ multiplied_here places u.size u.left u.rows u.stored fits counting to a b (here to l.to_there) (here a l.a_there) (here b l.b_there) within
           ∙ sym (settles (multiply_fault s to a b) s (multiplied counting s to a b) (sym passed));
       same = refl;
       shape = (as_many u.size places to c.product.result, refl);

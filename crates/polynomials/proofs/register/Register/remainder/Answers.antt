@@ -3,24 +3,24 @@ use lib.Bits.{bit_xor, bit_and, xor_assoc}
 use Rattle.std.proofs.lemmas.Nat.{one_shl}
 use Rattle.bits.specs.Bits.{top}
 use Rattle.polynomial_ring.specs.Polynomials.{rem}
-use Rattle.polynomial_ring.proofs.Windows.{fold_more, fold-whole, fold_none, low_part}
+use Rattle.polynomial_ring.proofs.Windows.{fold_more, fold_whole, fold_none, low_part}
 use Rattle.polynomials.proofs.register.Register.remainder.Goals as goal
 
-pub overflow-shr-high : goal.overflow-shr-high
-overflow-shr-high c = omega (arith, c.args.self.now.narrow)
+pub overflow_shr-high : goal.overflow_shr-high
+overflow_shr-high c = omega (arith, c.args.self.now.narrow)
 
-pub overflow-cast-high-2 : goal.overflow-cast-high-2
-overflow-cast-high-2 c =
+pub overflow_cast-high-2 : goal.overflow_cast-high-2
+overflow_cast-high-2 c =
     let f : ℕ = c.args.self.now.modulus in
     let h : c.args.p / 2 ^ c.args.self.now.degree < 2 ^ 64 =
     subst (λ (n : ℕ). c.args.p / 2 ^ n < 2 ^ 64) (sym c.args.self.now.high) (shr_lt {n = c.args.p} 64 (top f) c.requires) in
     omega (arith, h)
 
-pub overflow-shl-r : goal.overflow-shl-r
-overflow-shl-r c = omega (arith, c.args.self.now.narrow)
+pub overflow_shl-r : goal.overflow_shl-r
+overflow_shl-r c = omega (arith, c.args.self.now.narrow)
 
-pub overflow-sub-r : goal.overflow-sub-r
-overflow-sub-r c =
+pub overflow_sub-r : goal.overflow_sub-r
+overflow_sub-r c =
     let e : 1 * 2 ^ c.args.self.now.degree % 2 ^ 64 ≡ 2 ^ c.args.self.now.degree = one_shl c.args.self.now.degree 64 c.args.self.now.narrow in
     omega (arith, e, pow_pos c.args.self.now.degree)
 
@@ -63,4 +63,4 @@ returns c =
     c.loop-k.invariant
     ∙ ap (λ (k : ℕ). bit_xor (p % 2 ^ n) (rem f (p / 2 ^ n % 2 ^ (4 * k) * 2 ^ n))) end
     ∙ ap (λ (h : ℕ). bit_xor (p % 2 ^ n) (rem f (h * 2 ^ n))) whole
-    ∙ fold-whole f pos p
+    ∙ fold_whole f pos p

@@ -5,33 +5,33 @@ use Rattle.quota.specs.Quotas.{under_quota}
 use Rattle.quota.proofs.Quotas.{multiplies_below, some_left, one_more}
 use Rattle.quota.proofs.quota.QuotaUnit.multiply.Goals as goal
 
-pub returns-in-err-check-multiply : goal.returns-in-err-check-multiply
-returns-in-err-check-multiply g c =
+pub returns-in_err-check_multiply : goal.returns-in_err-check_multiply
+returns-in_err-check_multiply g c =
     let q = c.args.self.now in
-    let told = c.in-err-check-multiply.ensures.value in
+    let told = c.in_err-check_multiply.ensures.value in
     record {
-      value = handed_on _ _ c.from-residual.result c.from-residual.ensures.1 told;
+      value = handed_on _ _ c.from_residual.result c.from_residual.ensures.1 told;
       after = sym (stays _ _ _ _ told);
       same = refl;
       shape = (refl, refl);
       below = sym (stays _ _ _ _ told);
       used = sym (stays _ _ _ _ told);
       limit = refl;
-      refused = untouched c.from-residual.result q;
+      refused = untouched c.from_residual.result q;
     }
 
-pub returns-in-err-multiply : goal.returns-in-err-multiply
-returns-in-err-multiply g c =
+pub returns-in_err-multiply : goal.returns-in_err-multiply
+returns-in_err-multiply g c =
     let q = c.args.self.now in
     let s : State g.row.U-Value.Denot = g.U.Unit.state q.below in
-    let l = multiplies (under_quota q.limit q.used s) c.args.to c.args.a c.args.b (sym c.in-ok-check-multiply.ensures.value) in
-    no_refusal _ _ c.in-err-multiply.ensures.value (multiply_accepted s c.args.to c.args.a c.args.b (multiplies_below s q.limit q.used c.args.to c.args.a c.args.b l))
+    let l = multiplies (under_quota q.limit q.used s) c.args.to c.args.a c.args.b (sym c.in_ok-check_multiply.ensures.value) in
+    no_refusal _ _ c.in_err-multiply.ensures.value (multiply_accepted s c.args.to c.args.a c.args.b (multiplies_below s q.limit q.used c.args.to c.args.a c.args.b l))
 
-pub overflow-add-self : goal.overflow-add-self
-overflow-add-self g c =
+pub overflow_add-self : goal.overflow_add-self
+overflow_add-self g c =
     let q = c.args.self.now in
     let s : State g.row.U-Value.Denot = g.U.Unit.state q.below in
-    let l = multiplies (under_quota q.limit q.used s) c.args.to c.args.a c.args.b (sym c.in-ok-check-multiply.ensures.value) in
+    let l = multiplies (under_quota q.limit q.used s) c.args.to c.args.a c.args.b (sym c.in_ok-check_multiply.ensures.value) in
     omega (arith, some_left s q.limit q.used c.args.to c.args.a c.args.b l)
 
 pub returns : goal.returns
@@ -44,8 +44,8 @@ returns g c =
     let to = c.args.to in
     let a = c.args.a in
     let b = c.args.b in
-    let passed = c.in-ok-check-multiply.ensures.value in
-    let told = c.in-ok-multiply.ensures in
+    let passed = c.in_ok-check_multiply.ensures.value in
+    let told = c.in_ok-multiply.ensures in
     let went : t ≡ multiplied m s to a b = told.after ∙ settles (multiply_fault s to a b) s (multiplied m s to a b) (sym told.value) in
     record {
       value = passed;

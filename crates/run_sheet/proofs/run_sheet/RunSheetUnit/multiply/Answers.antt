@@ -5,25 +5,25 @@ use Rattle.run_sheet.specs.RunSheets.{sheeted}
 use Rattle.run_sheet.proofs.Sheets.{multiplies_below, one_more}
 use Rattle.run_sheet.proofs.run_sheet.RunSheetUnit.multiply.Goals as goal
 
-pub returns-in-err-check-multiply : goal.returns-in-err-check-multiply
-returns-in-err-check-multiply g c =
+pub returns-in_err-check_multiply : goal.returns-in_err-check_multiply
+returns-in_err-check_multiply g c =
     let q = c.args.self.now in
-    let told = c.in-err-check-multiply.ensures.value in
+    let told = c.in_err-check_multiply.ensures.value in
     record {
-      value = handed_on _ _ c.from-residual.result c.from-residual.ensures.1 told;
+      value = handed_on _ _ c.from_residual.result c.from_residual.ensures.1 told;
       after = sym (stays _ _ _ _ told);
       same = refl;
       shape = (refl, refl);
       below = sym (stays _ _ _ _ told);
-      refused = untouched c.from-residual.result q;
+      refused = untouched c.from_residual.result q;
     }
 
-pub returns-in-err-multiply : goal.returns-in-err-multiply
-returns-in-err-multiply g c =
+pub returns-in_err-multiply : goal.returns-in_err-multiply
+returns-in_err-multiply g c =
     let q = c.args.self.now in
     let s : State g.row.U-Value.Denot = g.U.Unit.state q.below in
-    let l = multiplies (sheeted q.records q.len s) c.args.to c.args.a c.args.b (sym c.in-ok-check-multiply.ensures.value) in
-    no_refusal _ _ c.in-err-multiply.ensures.value (multiply_accepted s c.args.to c.args.a c.args.b (multiplies_below s q.records q.len c.args.to c.args.a c.args.b l))
+    let l = multiplies (sheeted q.records q.len s) c.args.to c.args.a c.args.b (sym c.in_ok-check_multiply.ensures.value) in
+    no_refusal _ _ c.in_err-multiply.ensures.value (multiply_accepted s c.args.to c.args.a c.args.b (multiplies_below s q.records q.len c.args.to c.args.a c.args.b l))
 
 pub returns : goal.returns
 returns g c =
@@ -35,8 +35,8 @@ returns g c =
     let to = c.args.to in
     let a = c.args.a in
     let b = c.args.b in
-    let passed = c.in-ok-check-multiply.ensures.value in
-    let told = c.in-ok-multiply.ensures in
+    let passed = c.in_ok-check_multiply.ensures.value in
+    let told = c.in_ok-multiply.ensures in
     let went : t ≡ multiplied m s to a b = told.after ∙ settles (multiply_fault s to a b) s (multiplied m s to a b) (sym told.value) in
     let within : q.len < length q.records = omega (arith, (multiplies above to a b (sym passed)).some) in
     record {

@@ -2,8 +2,8 @@ use Rattle.std.proofs.Common.{length, ap, ◌∙◌, arith}
 use Rattle.sheets.proofs.Readings.{fault_within, lines_whole}
 use Rattle.sheets.proofs.reader.SheetReader.field_at_fault.Goals as goal
 
-pub column-here-requires : goal.column-here-requires
-column-here-requires c =
+pub column_here-requires : goal.column_here-requires
+column_here-requires c =
     record {
       within = λ column e.
           let below = fault_within c.in-Ok.lines _ _ column c.check.ensures.place e in

@@ -4,7 +4,7 @@ use Rattle.sheets.proofs.Readings.{turn_passes, turn_clean, fill_more}
 use Rattle.sheets.proofs.reader.SheetReader.fill.Goals as goal
 use Rattle.sheets.proofs.reader.SheetReader.fill.Goals.{In-Ok}
 
-next : (c : In-Ok) → c.next-step.new.self.line ≡ c.loop-self.self.line + 1
+next : (c : In-Ok) → c.next_step.new.self.line ≡ c.loop-self.self.line + 1
 next c =
     ap (λ p. p.line)
     (turn_passes c.args.lines c.loop-self.self.line _ c.args.self.now.text.now _ _ (ap (λ r. r.now) c.loop-self.invariant.0) c.loop-self-test.true c.in-Ok.ensures.answer c.in-Ok.ensures.place).0

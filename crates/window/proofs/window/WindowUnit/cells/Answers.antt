@@ -6,4 +6,4 @@ pub returns : goal.returns
 returns g c =
     let q = c.args.self.now in
     let counted = win_length (g.U.Unit.state q.below) q.from q.size in
-    record { value = omega (arith, counted, c.min.ensures, c.saturating-sub.ensures) }
+    record { value = omega (arith, counted, c.min.ensures, c.saturating_sub.ensures) }

@@ -2,29 +2,29 @@ use Rattle.std.proofs.Common.{◌≡◌, ◌+◌, Ok, sym, refl, ap, ◌∙◌, 
 use Rattle.units.specs.Units.{State, load_fault, loaded}
 use Rattle.units.proofs.Passing.{loads, load_accepted, handed_on, settles, stays, untouched, may_change}
 use Rattle.window.specs.Windows.{windowed}
-use Rattle.window.specs.WindowsLemmas.{fits, win_shape, loads-below, loaded-below}
+use Rattle.window.specs.WindowsLemmas.{fits, win_shape, loads_below, loaded_below}
 use Rattle.window.proofs.window.WindowUnit.load.Goals as goal
 
-pub returns-in-err-check-load : goal.returns-in-err-check-load
-returns-in-err-check-load g c =
+pub returns-in_err-check_load : goal.returns-in_err-check_load
+returns-in_err-check_load g c =
     let q = c.args.self.now in
-    let told = c.in-err-check-load.ensures.value in
+    let told = c.in_err-check_load.ensures.value in
     record {
-      value = handed_on _ _ c.from-residual.result c.from-residual.ensures.1 told;
+      value = handed_on _ _ c.from_residual.result c.from_residual.ensures.1 told;
       after = sym (stays _ _ _ _ told);
       same = refl;
       shape = (refl, refl);
       below = sym (stays _ _ _ _ told);
       from = refl;
       size = refl;
-      refused = untouched c.from-residual.result q;
+      refused = untouched c.from_residual.result q;
     }
 
-pub overflow-add-place : goal.overflow-add-place
-overflow-add-place g c =
+pub overflow_add-place : goal.overflow_add-place
+overflow_add-place g c =
     let q = c.args.self.now in
     let s = g.U.Unit.state q.below in
-    let l = loads (g.U.Kind.kind q.below) (windowed q.from q.size s) c.args.cell c.args.v (sym c.in-ok-check-load.ensures.value) in
+    let l = loads (g.U.Kind.kind q.below) (windowed q.from q.size s) c.args.cell c.args.v (sym c.in_ok-check_load.ensures.value) in
     let f = fits s q.from q.size c.args.cell l.cell (g.met.U.Unit.few q.below) in
     omega arith
 
@@ -38,15 +38,15 @@ returns g c =
     let above : State g.row.U-Value.Denot = windowed w q.size s in
     let cell = c.args.cell in
     let v = c.args.v in
-    let passed = c.in-ok-check-load.ensures.value in
+    let passed = c.in_ok-check_load.ensures.value in
     let told = c.load.ensures in
     let l = loads m above cell v (sym passed) in
-    let under = load_accepted m s (w + cell) v (loads-below s w q.size m cell v l) in
+    let under = load_accepted m s (w + cell) v (loads_below s w q.size m cell v l) in
     let went : t ≡ loaded s (w + cell) v = told.after ∙ settles (load_fault m s (w + cell) v) s (loaded s (w + cell) v) under in
     let ok : c.load.result ≡ Ok tt = told.value ∙ under in
     record {
       value = ok ∙ passed;
-      after = ap (windowed w q.size) went ∙ loaded-below s w q.size m cell v l
+      after = ap (windowed w q.size) went ∙ loaded_below s w q.size m cell v l
           ∙ sym (settles (load_fault m above cell v) above (loaded above cell v) (sym passed));
       same = told.same;
       shape = win_shape s t w q.size told.shape;
