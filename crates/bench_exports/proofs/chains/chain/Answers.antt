@@ -11,14 +11,14 @@ unwrap-product-requires g c =
     let k = c.args.kind.now in
     ap is_some (c.product.ensures.value
     ∙ chained_next (g.K.Kind.kind k) (g.met.K.Kind.closed k) c.args.a c.args.b
-    (sym c.if-not-is-native.ensures.value) (sym c.if-not-is-native-2.ensures.value) c.loop.counter c.loop.product c.loop.invariant)
+    (sym c.if-not-is_native.ensures.value) (sym c.if-not-is_native-2.ensures.value) c.loop.counter c.loop.product c.loop.invariant)
 
 pub loop-preserved : goal.loop-preserved
 loop-preserved g c =
     let k = c.args.kind.now in
     same_some c.unwrap-product.result _ (sym c.unwrap-product.ensures ∙ c.product.ensures.value
     ∙ chained_next (g.K.Kind.kind k) (g.met.K.Kind.closed k) c.args.a c.args.b
-    (sym c.if-not-is-native.ensures.value) (sym c.if-not-is-native-2.ensures.value) c.loop.counter c.loop.product c.loop.invariant)
+    (sym c.if-not-is_native.ensures.value) (sym c.if-not-is_native-2.ensures.value) c.loop.counter c.loop.product c.loop.invariant)
 
 pub returns : goal.returns
 returns g c =
@@ -27,5 +27,5 @@ returns g c =
     let end : c.loop.counter ≡ c.args.n = omega arith in
     record {
       value = ap Some (c.loop.invariant ∙ ap (chained m c.args.a c.args.b) end)
-          ∙ sym (chain_whole m (g.met.K.Kind.closed k) c.args.a c.args.b (sym c.if-not-is-native.ensures.value) (sym c.if-not-is-native-2.ensures.value) c.args.n);
+          ∙ sym (chain_whole m (g.met.K.Kind.closed k) c.args.a c.args.b (sym c.if-not-is_native.ensures.value) (sym c.if-not-is_native-2.ensures.value) c.args.n);
     }

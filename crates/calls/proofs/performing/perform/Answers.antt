@@ -15,8 +15,8 @@ returns-then-answers-calls g c = record {
   same = refl;
 }
 
-pub offset-bounds-answers-i : goal.offset-bounds-answers-i
-offset-bounds-answers-i g c = let h : c.loop-i.i < length c.args.answers.now = omega arith in search rules
+pub offset_bounds-answers-i : goal.offset_bounds-answers-i
+offset_bounds-answers-i g c = let h : c.loop-i.i < length c.args.answers.now = omega arith in search rules
 
 pub loop-i-preserved : goal.loop-i-preserved
 loop-i-preserved g c =
@@ -24,11 +24,11 @@ loop-i-preserved g c =
     let u = c.args.unit.now in
     let inv = c.loop-i.invariant in (
       performed_more (g.U.Kind.kind u) (g.U.Kind.kind c.loop-i.unit) (length c.args.table.now) (length c.loop-i.table)
-          (setting (g.U.Unit.state u) c.args.table.now) (setting (g.U.Unit.state c.loop-i.unit) c.loop-i.table) (setting (g.U.Unit.state c.perform-call.new.unit) c.perform-call.new.table)
-          c.args.calls.now c.loop-i.answers i c.index-calls-i.result c.perform-call.result
-          inv.2 (omega arith) (omega arith) (omega arith) c.index-calls-i.is inv.0 c.perform-call.ensures.made,
-      drop_more c.loop-i.answers c.args.answers.now i c.perform-call.result inv.1,
-      c.perform-call.ensures.same ∙ inv.2,
+          (setting (g.U.Unit.state u) c.args.table.now) (setting (g.U.Unit.state c.loop-i.unit) c.loop-i.table) (setting (g.U.Unit.state c.perform_call.new.unit) c.perform_call.new.table)
+          c.args.calls.now c.loop-i.answers i c.index-calls-i.result c.perform_call.result
+          inv.2 (omega arith) (omega arith) (omega arith) c.index-calls-i.is inv.0 c.perform_call.ensures.made,
+      drop_more c.loop-i.answers c.args.answers.now i c.perform_call.result inv.1,
+      c.perform_call.ensures.same ∙ inv.2,
     )
 
 pub returns : goal.returns

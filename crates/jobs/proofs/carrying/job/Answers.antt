@@ -9,17 +9,17 @@ use Rattle.jobs.specs.declared.stage.Stage.TheVariants.{Reading, Admission, Runn
 use Rattle.jobs.proofs.Stages.{read_left, read_is, read_fits, on_ok, unread_answer, unread_after, stopped_answer, stopped_after, worked_answer, worked_after, as_asked, kept_on}
 use Rattle.jobs.proofs.carrying.job.Goals as goal
 
-pub slice-bounds-admit-end : goal.slice-bounds-admit-end
-slice-bounds-admit-end g c =
+pub slice_bounds-admit-end : goal.slice_bounds-admit-end
+slice_bounds-admit-end g c =
     let room = length c.args.table.now in
     let sheet : Result (List Step) Refusal = read_sheet c.new-reader.result.text.now room in
-    let fits : c.in-ok-count.count ≤ length c.read.new.table =
-    read_fits sheet sheet refl c.args.table.now c.read.new.table c.read.result c.in-ok-count.count
-    c.read.ensures.answer c.in-ok-count.ensures.value c.read.ensures.after in
+    let fits : c.in_ok-count.count ≤ length c.read.new.table =
+    read_fits sheet sheet refl c.args.table.now c.read.new.table c.read.result c.in_ok-count.count
+    c.read.ensures.answer c.in_ok-count.ensures.value c.read.ensures.after in
     search rules
 
-pub returns-in-err-count : goal.returns-in-err-count
-returns-in-err-count g c =
+pub returns-in_err-count : goal.returns-in_err-count
+returns-in_err-count g c =
     let u = c.args.unit.now in
     let m = g.U.Kind.kind u in
     let s = g.U.Unit.state u in
@@ -29,19 +29,19 @@ returns-in-err-count g c =
     let sheet : Result (List Step) Refusal = read_sheet c.args.text.now (length table) in
     let same : read_sheet c.new-reader.result.text.now (length table) ≡ sheet = ap (λ t. read_sheet t.now (length table)) c.new-reader.ensures.text in
     let said : c.read.result ≡ counted sheet = c.read.ensures.answer ∙ ap counted same in
-    let e : JobRefusal = c.in-err-count.field-0.0 in
-    let on = c.in-err-count.ensures.value in
-    let out = exit_is c.from-residual.result e c.from-residual.ensures.1 in
+    let e : JobRefusal = c.in_err-count.field-0.0 in
+    let on = c.in_err-count.ensures.value in
+    let out = exit_is c.from_residual.result e c.from_residual.ensures.1 in
     record {
       answer = out ∙ unread_answer sheet n c.read.result e said on (λ steps. run_answer m s n steps x);
       after = unread_after sheet n c.read.result e said on (s ≡ s) (λ steps. Ran m s n steps x (run_answer m s n steps x) s) refl;
       table = c.read.ensures.after ∙ ap (λ r. filled r table) same;
-      refused = unchanged_err c.from-residual.result e u u out refl;
+      refused = unchanged_err c.from_residual.result e u u out refl;
       same = refl;
     }
 
-pub returns-in-err-at-stage : goal.returns-in-err-at-stage
-returns-in-err-at-stage g c =
+pub returns-in_err-at_stage : goal.returns-in_err-at_stage
+returns-in_err-at_stage g c =
     let u = c.args.unit.now in
     let m = g.U.Kind.kind u in
     let s = g.U.Unit.state u in
@@ -51,19 +51,19 @@ returns-in-err-at-stage g c =
     let sheet : Result (List Step) Refusal = read_sheet c.args.text.now room in
     let own : Result (List Step) Refusal = read_sheet c.new-reader.result.text.now room in
     let same : own ≡ sheet = ap (λ t. read_sheet t.now room) c.new-reader.ensures.text in
-    let steps : List Step = take (c.in-ok-count.count - 0) c.read.new.table in
+    let steps : List Step = take (c.in_ok-count.count - 0) c.read.new.table in
     let is : sheet ≡ Ok steps =
-    read_is sheet own same c.args.table.now c.read.new.table c.read.result c.in-ok-count.count
-    c.read.ensures.answer c.in-ok-count.ensures.value c.read.ensures.after in
-    let e : JobRefusal = c.in-err-at-stage.field-0.0 in
-    let on = c.in-err-at-stage.ensures.value in
-    let out = exit_is c.from-residual-in-err-at-stage.result e c.from-residual-in-err-at-stage.ensures.1 in
+    read_is sheet own same c.args.table.now c.read.new.table c.read.result c.in_ok-count.count
+    c.read.ensures.answer c.in_ok-count.ensures.value c.read.ensures.after in
+    let e : JobRefusal = c.in_err-at_stage.field-0.0 in
+    let on = c.in_err-at_stage.ensures.value in
+    let out = exit_is c.from_residual-in_err-at_stage.result e c.from_residual-in_err-at_stage.ensures.1 in
     record {
       answer = out ∙ stopped_answer sheet n steps is c.admit.result c.admit.ensures.answer e on (λ l. run_answer m s n l x);
       after = stopped_after sheet n steps is c.admit.result c.admit.ensures.answer e on (s ≡ s) (λ l. Ran m s n l x (run_answer m s n l x) s) refl;
-      table = read_left sheet own same c.args.table.now c.read.new.table c.read.result c.in-ok-count.count
-          c.read.ensures.answer c.in-ok-count.ensures.value c.read.ensures.after;
-      refused = unchanged_err c.from-residual-in-err-at-stage.result e u u out refl;
+      table = read_left sheet own same c.args.table.now c.read.new.table c.read.result c.in_ok-count.count
+          c.read.ensures.answer c.in_ok-count.ensures.value c.read.ensures.after;
+      refused = unchanged_err c.from_residual-in_err-at_stage.result e u u out refl;
       same = refl;
     }
 
@@ -78,12 +78,12 @@ returns g c =
     let sheet : Result (List Step) Refusal = read_sheet c.args.text.now room in
     let own : Result (List Step) Refusal = read_sheet c.new-reader.result.text.now room in
     let same : own ≡ sheet = ap (λ t. read_sheet t.now room) c.new-reader.ensures.text in
-    let steps : List Step = take (c.in-ok-count.count - 0) c.read.new.table in
+    let steps : List Step = take (c.in_ok-count.count - 0) c.read.new.table in
     let is : sheet ≡ Ok steps =
-    read_is sheet own same c.args.table.now c.read.new.table c.read.result c.in-ok-count.count
-    c.read.ensures.answer c.in-ok-count.ensures.value c.read.ensures.after in
-    let on = c.in-ok-at-stage.ensures.value in
-    let held = on_ok Admission c.admit.result c.in-ok-at-stage.field-0
+    read_is sheet own same c.args.table.now c.read.new.table c.read.result c.in_ok-count.count
+    c.read.ensures.answer c.in_ok-count.ensures.value c.read.ensures.after in
+    let on = c.in_ok-at_stage.ensures.value in
+    let held = on_ok Admission c.admit.result c.in_ok-at_stage.field-0
     (λ _. (c.admit.new.self.exponent ≡ n) × (c.admit.new.self.steps.now ≡ steps)) (λ _. c.admit.new.self ≡ c.one-plan.result)
     on c.admit.ensures.after in
     let r = c.run.result in
@@ -94,11 +94,11 @@ returns g c =
     subst (λ z. Ran m s n steps x z t) ran
     (as_asked (λ k l. Ran m s k l x r t) c.admit.new.self.exponent n c.admit.new.self.steps.now steps held.0 held.1 c.run.ensures.after) in
     record {
-      answer = worked_answer sheet n steps is c.admit.result c.admit.ensures.answer c.in-ok-at-stage.field-0 on (λ l. run_answer m s n l x)
-          r c.at-stage-3.result ran c.at-stage-3.ensures.value;
-      after = worked_after sheet n steps is c.admit.result c.admit.ensures.answer c.in-ok-at-stage.field-0 on (t ≡ s) (λ l. Ran m s n l x (run_answer m s n l x) t) left;
-      table = read_left sheet own same c.args.table.now c.read.new.table c.read.result c.in-ok-count.count
-          c.read.ensures.answer c.in-ok-count.ensures.value c.read.ensures.after;
-      refused = kept_on Running r c.at-stage-3.result u c.run.new.unit c.at-stage-3.ensures.value c.run.ensures.refused;
+      answer = worked_answer sheet n steps is c.admit.result c.admit.ensures.answer c.in_ok-at_stage.field-0 on (λ l. run_answer m s n l x)
+          r c.at_stage-3.result ran c.at_stage-3.ensures.value;
+      after = worked_after sheet n steps is c.admit.result c.admit.ensures.answer c.in_ok-at_stage.field-0 on (t ≡ s) (λ l. Ran m s n l x (run_answer m s n l x) t) left;
+      table = read_left sheet own same c.args.table.now c.read.new.table c.read.result c.in_ok-count.count
+          c.read.ensures.answer c.in_ok-count.ensures.value c.read.ensures.after;
+      refused = kept_on Running r c.at_stage-3.result u c.run.new.unit c.at_stage-3.ensures.value c.run.ensures.refused;
       same = c.run.ensures.same;
     }

@@ -3,20 +3,20 @@ use Rattle.std.proofs.lemmas.Bool.Decides.{nat_tests}
 use Rattle.methods.proofs.Responses.{small_refusal, respond_sheet, respond_refusal}
 use Rattle.methods.proofs.response.respond.Goals as goal
 
-pub returns-then-out-lt-MOST-BYTES : goal.returns-then-out-lt-MOST-BYTES
-returns-then-out-lt-MOST-BYTES c = record { answer = grind (arith, nat_tests); after = grind (arith, nat_tests) }
+pub returns-then-out-lt-MOST_BYTES : goal.returns-then-out-lt-MOST_BYTES
+returns-then-out-lt-MOST_BYTES c = record { answer = grind (arith, nat_tests); after = grind (arith, nat_tests) }
 
-pub write-refusal-requires : goal.write-refusal-requires
-write-refusal-requires c =
+pub write_refusal-requires : goal.write_refusal-requires
+write_refusal-requires c =
     let s = small_refusal c.args.line.now c.in-Err.refusal c.in-Err.ensures.answer in
     record { room = omega arith; number = s.0; place = s.1 }
 
 pub returns-in-Ok : goal.returns-in-Ok
 returns-in-Ok c =
-    let p = respond_sheet c.args.line.now c.args.out.now c.write-plan.new.out c.in-Ok.length (omega arith) c.in-Ok.ensures.answer c.write-plan.ensures.after in
+    let p = respond_sheet c.args.line.now c.args.out.now c.write_plan.new.out c.in-Ok.length (omega arith) c.in-Ok.ensures.answer c.write_plan.ensures.after in
     record { answer = p.0; after = p.1 }
 
 pub returns-in-Err : goal.returns-in-Err
 returns-in-Err c =
-    let p = respond_refusal c.args.line.now c.args.out.now c.write-plan.new.out c.write-refusal.new.out c.in-Err.refusal c.write-refusal.result (omega arith) c.in-Err.ensures.answer c.write-plan.ensures.after c.write-refusal.ensures.count c.write-refusal.ensures.after in
+    let p = respond_refusal c.args.line.now c.args.out.now c.write_plan.new.out c.write_refusal.new.out c.in-Err.refusal c.write_refusal.result (omega arith) c.in-Err.ensures.answer c.write_plan.ensures.after c.write_refusal.ensures.count c.write_refusal.ensures.after in
     record { answer = p.0; after = p.1 }

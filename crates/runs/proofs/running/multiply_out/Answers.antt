@@ -9,13 +9,13 @@ use Rattle.runs.proofs.running.multiply_out.Goals as goal
 laws_of : (g : given.Over) (u : g.row.U.Denot) → Laws (g.U.Kind.kind u)
 laws_of g u = record { closed = g.met.U.Kind.closed u; assoc = g.met.U.Kind.assoc u }
 
-pub returns-in-err-multiply-step : goal.returns-in-err-multiply-step
-returns-in-err-multiply-step g c =
+pub returns-in_err-multiply_step : goal.returns-in_err-multiply_step
+returns-in_err-multiply_step g c =
     let u = c.args.unit.now in
     let steps = c.args.steps.now in
     absurd (turn_passes (g.U.Kind.kind u) (g.U.Unit.state u) (last_value steps) steps c.args.places.now c.requires.0 (laws_of g u) c.requires.1
     c.loop-i.i (g.U.Kind.kind c.loop-i.unit) (g.U.Unit.state c.loop-i.unit) c.loop-i.invariant.1 c.loop-i.invariant.0
-    c.in-err-multiply-step.field-0.0 (omega arith) c.in-err-multiply-step.ensures.value)
+    c.in_err-multiply_step.field-0.0 (omega arith) c.in_err-multiply_step.ensures.value)
 
 pub loop-i-preserved : goal.loop-i-preserved
 loop-i-preserved g c =
@@ -23,8 +23,8 @@ loop-i-preserved g c =
     let steps = c.args.steps.now in (
       turn_next (g.U.Kind.kind u) (g.U.Unit.state u) (last_value steps) steps c.args.places.now c.requires.0 (laws_of g u) c.requires.1
           c.loop-i.i (g.U.Kind.kind c.loop-i.unit) (g.U.Unit.state c.loop-i.unit) c.loop-i.invariant.1 c.loop-i.invariant.0
-          (g.U.Unit.state c.multiply-step.new.unit) (omega arith) c.multiply-step.ensures.after,
-      c.multiply-step.ensures.same ∙ c.loop-i.invariant.1,
+          (g.U.Unit.state c.multiply_step.new.unit) (omega arith) c.multiply_step.ensures.after,
+      c.multiply_step.ensures.same ∙ c.loop-i.invariant.1,
     )
 
 pub returns : goal.returns

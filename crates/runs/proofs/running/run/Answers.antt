@@ -36,35 +36,35 @@ supplied_by : (steps : List Step) (table : List ℕ) (k : ℕ) → k ≡ length 
     → take (k + 1 - 0) table ≡ supplied_cells steps
 supplied_by steps table k e h = simp (sub-zero, e) (front_supplied steps table (drop (length steps + 1) (replicate 129 0)) h)
 
-pub returns-in-err-load : goal.returns-in-err-load
-returns-in-err-load g c =
+pub returns-in_err-load : goal.returns-in_err-load
+returns-in_err-load g c =
     let u = c.args.unit.now in
     let p = c.args.plan.now in
-    let told = c.in-ok-check-run.ensures in
-    absurd (load_passes (g.U.Kind.kind u) (g.U.Unit.state u) p.steps.now c.args.base p.exponent (take (c.len.result + 1 - 0) c.check-run.new.places)
-    (chain_of_lem p) (supplied_by p.steps.now c.check-run.new.places c.len.result c.len.ensures.count told.placed) (verdict_none (run_fault (g.U.Kind.kind u) (g.U.Unit.state u) p.steps.now c.args.base) told.answer)
-    c.in-err-load.field-0.0 c.in-err-load.ensures.value)
+    let told = c.in_ok-check_run.ensures in
+    absurd (load_passes (g.U.Kind.kind u) (g.U.Unit.state u) p.steps.now c.args.base p.exponent (take (c.len.result + 1 - 0) c.check_run.new.places)
+    (chain_of_lem p) (supplied_by p.steps.now c.check_run.new.places c.len.result c.len.ensures.count told.placed) (verdict_none (run_fault (g.U.Kind.kind u) (g.U.Unit.state u) p.steps.now c.args.base) told.answer)
+    c.in_err-load.field-0.0 c.in_err-load.ensures.value)
 
-pub multiply-out-requires : goal.multiply-out-requires
-multiply-out-requires g c =
+pub multiply_out-requires : goal.multiply_out-requires
+multiply_out-requires g c =
     let u = c.args.unit.now in
     let p = c.args.plan.now in
-    let told = c.in-ok-check-run.ensures in
-    begun (g.U.Kind.kind u) (g.U.Unit.state u) p.steps.now c.args.base p.exponent (take (c.len.result + 1 - 0) c.check-run.new.places)
-    (chain_of_lem p) (supplied_by p.steps.now c.check-run.new.places c.len.result c.len.ensures.count told.placed) (verdict_none (run_fault (g.U.Kind.kind u) (g.U.Unit.state u) p.steps.now c.args.base) told.answer)
+    let told = c.in_ok-check_run.ensures in
+    begun (g.U.Kind.kind u) (g.U.Unit.state u) p.steps.now c.args.base p.exponent (take (c.len.result + 1 - 0) c.check_run.new.places)
+    (chain_of_lem p) (supplied_by p.steps.now c.check_run.new.places c.len.result c.len.ensures.count told.placed) (verdict_none (run_fault (g.U.Kind.kind u) (g.U.Unit.state u) p.steps.now c.args.base) told.answer)
     (g.U.Kind.kind c.load.new.self) (g.U.Unit.state c.load.new.self) c.steps.result.now
     c.load.ensures.same c.load.ensures.after c.steps.ensures.steps
 
-pub returns-in-err-value : goal.returns-in-err-value
-returns-in-err-value g c =
+pub returns-in_err-value : goal.returns-in_err-value
+returns-in_err-value g c =
     let u = c.args.unit.now in
     let p = c.args.plan.now in
-    let told = c.in-ok-check-run.ensures in
-    refused_is_answer c.in-err-value.field-0.0 (power (g.U.Kind.kind u) c.args.base p.exponent)
-    (handed (g.U.Kind.kind u) (g.U.Unit.state u) p.steps.now c.args.base p.exponent (take (c.len.result + 1 - 0) c.check-run.new.places)
-    (chain_of_lem p) (supplied_by p.steps.now c.check-run.new.places c.len.result c.len.ensures.count told.placed) (verdict_none (run_fault (g.U.Kind.kind u) (g.U.Unit.state u) p.steps.now c.args.base) told.answer)
+    let told = c.in_ok-check_run.ensures in
+    refused_is_answer c.in_err-value.field-0.0 (power (g.U.Kind.kind u) c.args.base p.exponent)
+    (handed (g.U.Kind.kind u) (g.U.Unit.state u) p.steps.now c.args.base p.exponent (take (c.len.result + 1 - 0) c.check_run.new.places)
+    (chain_of_lem p) (supplied_by p.steps.now c.check_run.new.places c.len.result c.len.ensures.count told.placed) (verdict_none (run_fault (g.U.Kind.kind u) (g.U.Unit.state u) p.steps.now c.args.base) told.answer)
     (g.U.Kind.kind c.load.new.self) (g.U.Unit.state c.load.new.self) c.steps.result.now
-    c.load.ensures.same c.load.ensures.after c.steps.ensures.steps (Err c.in-err-value.field-0.0) c.in-err-value.ensures.value)
+    c.load.ensures.same c.load.ensures.after c.steps.ensures.steps (Err c.in_err-value.field-0.0) c.in_err-value.ensures.value)
 
 pub returns : goal.returns
 returns g c =
@@ -73,20 +73,20 @@ returns g c =
     let s = g.U.Unit.state u in
     let p = c.args.plan.now in
     let x = c.args.base in
-    let told = c.in-ok-check-run.ensures in
-    let places : List ℕ = take (c.len.result + 1 - 0) c.check-run.new.places in
-    let on : places ≡ supplied_cells p.steps.now = supplied_by p.steps.now c.check-run.new.places c.len.result c.len.ensures.count told.placed in
+    let told = c.in_ok-check_run.ensures in
+    let places : List ℕ = take (c.len.result + 1 - 0) c.check_run.new.places in
+    let on : places ≡ supplied_cells p.steps.now = supplied_by p.steps.now c.check_run.new.places c.len.result c.len.ensures.count told.placed in
     let fine : run_fault m s p.steps.now x ≡ None = verdict_none (run_fault (g.U.Kind.kind u) (g.U.Unit.state u) p.steps.now c.args.base) told.answer in
-    let ends = c.in-ok-value.ensures in
-    let out : Ok c.in-ok-value.value ≡ Ok (power m x p.exponent) =
+    let ends = c.in_ok-value.ensures in
+    let out : Ok c.in_ok-value.value ≡ Ok (power m x p.exponent) =
     handed m s p.steps.now x p.exponent places (chain_of_lem p) on fine (g.U.Kind.kind c.load.new.self) (g.U.Unit.state c.load.new.self) c.steps.result.now
-    c.load.ensures.same c.load.ensures.after c.steps.ensures.steps (Ok c.in-ok-value.value) ends.value in
-    let value : c.in-ok-value.value ≡ power m x p.exponent = cc in
+    c.load.ensures.same c.load.ensures.after c.steps.ensures.steps (Ok c.in_ok-value.value) ends.value in
+    let value : c.in_ok-value.value ≡ power m x p.exponent = cc in
     record {
-      answer = answered (run_fault m s p.steps.now x) c.in-ok-value.value (power m x p.exponent) fine value;
-      after = success m s p.steps.now x p.exponent places (chain_of_lem p) on fine (laws_of g u) c.in-ok-value.value (g.U.Unit.state c.multiply-out.new.unit) value
+      answer = answered (run_fault m s p.steps.now x) c.in_ok-value.value (power m x p.exponent) fine value;
+      after = success m s p.steps.now x p.exponent places (chain_of_lem p) on fine (laws_of g u) c.in_ok-value.value (g.U.Unit.state c.multiply_out.new.unit) value
           (ended m s p.steps.now x p.exponent places (chain_of_lem p) on fine (g.U.Kind.kind c.load.new.self) (g.U.Unit.state c.load.new.self) c.steps.result.now
-          c.load.ensures.same c.load.ensures.after c.steps.ensures.steps (g.U.Unit.state c.multiply-out.new.unit) ends.after);
+          c.load.ensures.same c.load.ensures.after c.steps.ensures.steps (g.U.Unit.state c.multiply_out.new.unit) ends.after);
       refused = tt;
       same = ends.same ∙ c.load.ensures.same;
     }

@@ -22,7 +22,7 @@ loop-at-preserved c =
     let d : drop (n - 1) (set c.loop-at.path (n - 1) v) ≡ v ∷ drop n c.loop-at.path = drop-set c.loop-at.path (n - 1) v lt ∙ ap (λ (k : ℕ). v ∷ drop k c.loop-at.path) same in
     let e = onto_step n v ps (drop n c.loop-at.path) c.loop-at-test.true c.if-v-gt0.true in
     let i = c.loop-at.invariant.2 in
-    let r = c.parent-of-v.ensures in
+    let r = c.parent_of-v.ensures in
     (simp length-set (omega arith), omega arith, cc)
 
 pub returns-else-v-gt0 : goal.returns-else-v-gt0

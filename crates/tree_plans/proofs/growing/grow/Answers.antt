@@ -11,25 +11,25 @@ loop-level-init c =
       ap (λ (os : List ℕ). stage (growth c.fill.new.self os) 0) c.first-order.ensures ∙ ap (λ (ps : List ℕ). stage (growth ps (1 ∷ [])) 0) e ∙ stage_first,
     )
 
-pub grow-level-requires : goal.grow-level-requires
-grow-level-requires c =
+pub grow_level-requires : goal.grow_level-requires
+grow_level-requires c =
     let l = c.loop-level in
     record {
       size = omega arith;
       level = l.invariant.0;
-      room = stage_space (l.-level - 1) l.from (growth l.parents (listed l.order)) (omega arith) l.invariant.1;
+      room = stage_space (l._level - 1) l.from (growth l.parents (listed l.order)) (omega arith) l.invariant.1;
     }
 
 pub loop-level-preserved : goal.loop-level-preserved
 loop-level-preserved c =
     let l = c.loop-level in
-    let h = c.grow-level in
+    let h = c.grow_level in
     let g : Growth = growth l.parents (listed l.order) in
     let next : Growth = growth h.new.parents (listed h.new.order) in
-    let m : l.-level - 1 + 1 ≡ l.-level + 1 - 1 = omega arith in (
+    let m : l._level - 1 + 1 ≡ l._level + 1 - 1 = omega arith in (
       omega (arith, c.len-to.ensures, stage_longer l.from g next h.ensures.tree),
-      ap (stage next) c.len-to.ensures ∙ stage_more (l.-level - 1) l.from g next l.invariant.1 h.ensures.tree ∙ ap stage_at m,
+      ap (stage next) c.len-to.ensures ∙ stage_more (l._level - 1) l.from g next l.invariant.1 h.ensures.tree ∙ ap stage_at m,
     )
 
 pub returns : goal.returns
-returns c = let l = c.loop-level in stage_last (growth l.parents (listed l.order)) l.from (l.-level - 1) (omega arith) l.invariant.1
+returns c = let l = c.loop-level in stage_last (growth l.parents (listed l.order)) l.from (l._level - 1) (omega arith) l.invariant.1

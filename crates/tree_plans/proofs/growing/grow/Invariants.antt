@@ -5,4 +5,4 @@ use Rattle.tree_plans.proofs.growing.grow.Given as goal
 
 -- the tree so far has a level more at each turn
 abbrev pub invariant-loop-level : goal.invariant-loop-level
-invariant-loop-level l = (l.from ≤ length (listed l.order)) × (stage (growth l.parents (listed l.order)) l.from ≡ stage_at (l.-level - 1))
+invariant-loop-level l = (l.from ≤ length (listed l.order)) × (stage (growth l.parents (listed l.order)) l.from ≡ stage_at (l._level - 1))

@@ -7,7 +7,7 @@ use Rattle.tree_plans.proofs.growing.grow_level.Goals as goal
 pub loop-k-preserved : goal.loop-k-preserved
 loop-k-preserved c =
     let l = c.loop-k in
-    let h = c.hang-all in
+    let h = c.hang_all in
     let g : Growth = growth l.parents (listed l.order) in
     let next : Growth = growth h.new.parents (listed h.new.order) in (
       omega (arith, l.invariant.0, level_longer g next c.number-u.result h.ensures.tree),
@@ -25,8 +25,8 @@ returns c =
           ∙ ap (λ (n : ℕ). turns (n - from) from (growth c.args.parents.now (listed c.args.order.now))) c.len-to.ensures;
     }
 
-pub hang-all-requires : goal.hang-all-requires
-hang-all-requires c =
+pub hang_all-requires : goal.hang_all-requires
+hang_all-requires c =
     let l = c.loop-k in
     let from = c.args.from in
     let start : Growth = growth c.args.parents.now (listed c.args.order.now) in

@@ -4,8 +4,8 @@ use Rattle.power_tree.proofs.Turns.{all_more, all_room, all_none}
 use Rattle.tree_plans.specs.Order.{listed}
 use Rattle.tree_plans.proofs.growing.hang_all.Goals as goal
 
-pub hang-one-requires : goal.hang-one-requires
-hang-one-requires c =
+pub hang_one-requires : goal.hang_one-requires
+hang_one-requires c =
     let l = c.loop-i in
     record {
       size = omega arith;
@@ -15,7 +15,7 @@ hang-one-requires c =
 pub loop-i-preserved : goal.loop-i-preserved
 loop-i-preserved c =
     let l = c.loop-i in
-    let h = c.hang-one in
+    let h = c.hang_one in
     let g : Growth = growth l.parents (listed l.order) in
     let next : Growth = growth h.new.parents (listed h.new.order) in
     (l.invariant.0, all_more c.args.u g next _ c.climb-start.new.path l.i (omega arith) h.ensures.tree l.invariant.1)

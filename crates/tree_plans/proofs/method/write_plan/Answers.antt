@@ -3,8 +3,8 @@ use Rattle.power_tree.specs.Tree.{turned, tree_path}
 use Rattle.tree_plans.proofs.Planned.{climbed, path_length, path_most, count_plan, table_plan}
 use Rattle.tree_plans.proofs.method.write_plan.Goals as goal
 
-pub write-steps-requires : goal.write-steps-requires
-write-steps-requires c =
+pub write_steps-requires : goal.write_steps-requires
+write_steps-requires c =
     let n = c.args.n in
     let at = c.climb-start.result in
     let path = c.climb-start.new.path in
@@ -24,6 +24,6 @@ returns c =
     let part : List ℕ = take (19 - at) (drop at path) in
     let e : part ≡ turned (tree_path n) [] = climbed n at path c.args.parents.now (omega arith) c.climb-start.ensures.path c.requires.tree c.requires.positive c.requires.within in
     record {
-      count = count_plan n c.write-steps.result part e c.write-steps.ensures.count;
-      after = table_plan n part c.args.table.now c.write-steps.new.table e c.write-steps.ensures.after;
+      count = count_plan n c.write_steps.result part e c.write_steps.ensures.count;
+      after = table_plan n part c.args.table.now c.write_steps.new.table e c.write_steps.ensures.after;
     }

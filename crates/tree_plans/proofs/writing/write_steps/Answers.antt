@@ -25,8 +25,8 @@ loop-i-preserved c =
     let f = subst (Filled plan was now (i - 1)) (left_more path i (omega arith) (omega arith)) c.loop-i.invariant in
     let g = filled_more plan was now (i - 1) (step (i - 1) k x) rest (omega (arith, c.requires.places)) f in
     let e : i - 1 + 1 ≡ i + 1 - 1 = omega arith in
-    subst (λ (n : ℕ). Filled plan was (set now (i - 1) (step (i - 1) c.summand-place-k.result x)) n rest) e
-    (subst (λ (y : ℕ). Filled plan was (set now (i - 1) (step (i - 1) y x)) (i - 1 + 1) rest) (sym c.summand-place-k.ensures.place) g)
+    subst (λ (n : ℕ). Filled plan was (set now (i - 1) (step (i - 1) c.summand_place-k.result x)) n rest) e
+    (subst (λ (y : ℕ). Filled plan was (set now (i - 1) (step (i - 1) y x)) (i - 1 + 1) rest) (sym c.summand_place-k.ensures.place) g)
 
 pub returns : goal.returns
 returns c =

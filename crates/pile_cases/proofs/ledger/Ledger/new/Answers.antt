@@ -4,8 +4,8 @@ use Rattle.banks.proofs.Natives.{none_native}
 use Rattle.pile_cases.specs.LedgersLemmas.{made_empty}
 use Rattle.pile_cases.proofs.ledger.Ledger.new.Goals as goal
 
-pub invariant-of-result : goal.invariant-of-result
-invariant-of-result c = (omega arith, (refl, (none_native counting 255, (refl, (omega (arith, c.min.ensures), tt)))))
+pub invariant_of-result : goal.invariant_of-result
+invariant_of-result c = (omega arith, (refl, (none_native counting 255, (refl, (omega (arith, c.min.ensures), tt)))))
 
 pub returns : goal.returns
 returns c = record { empty = made_empty c.args.cells c.min.result c.args.allowance (omega arith) c.min.ensures }

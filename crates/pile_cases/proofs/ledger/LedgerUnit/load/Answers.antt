@@ -8,13 +8,13 @@ use Rattle.pile_cases.specs.Ledgers.{ledgered}
 use Rattle.pile_cases.specs.LedgersLemmas.{as_many, inside, loaded_here}
 use Rattle.pile_cases.proofs.ledger.LedgerUnit.load.Goals as goal
 
-pub invariant-of-self : goal.invariant-of-self
-invariant-of-self c =
+pub invariant_of-self : goal.invariant_of-self
+invariant_of-self c =
     let u = c.args.self.now in
     let s : State Count = ledgered u.places u.size u.left u.rows u.stored in
     let cell = c.args.cell in
     let v = c.args.v in
-    let l = loads counting s cell v (sym c.in-ok-check-load.ensures.value) in (
+    let l = loads counting s cell v (sym c.in_ok-check_load.ensures.value) in (
       u.narrow,
       (
         length-set u.places cell (Some v) ∙ u.full,
@@ -31,7 +31,7 @@ returns c =
     let s : State Count = ledgered u.places u.size u.left u.rows u.stored in
     let cell = c.args.cell in
     let v = c.args.v in
-    let passed = c.in-ok-check-load.ensures.value in
+    let passed = c.in_ok-check_load.ensures.value in
     let fits : u.size ≤ length u.places = omega arith in
     let below = inside u.places u.size u.left u.rows u.stored fits cell (loads counting s cell v (sym passed)).cell in
     record {

@@ -9,22 +9,22 @@ use Rattle.pile_cases.specs.Ledgers.{ledgered}
 use Rattle.pile_cases.specs.LedgersLemmas.{counts_closed, as_many, inside, multiplied_here}
 use Rattle.pile_cases.proofs.ledger.LedgerUnit.multiply.Goals as goal
 
-pub returns-in-err-check-multiply : goal.returns-in-err-check-multiply
-returns-in-err-check-multiply c =
-    let told = c.in-err-check-multiply.ensures.value in
+pub returns-in_err-check_multiply : goal.returns-in_err-check_multiply
+returns-in_err-check_multiply c =
+    let told = c.in_err-check_multiply.ensures.value in
     record {
-      value = handed_on _ _ c.from-residual.result c.from-residual.ensures.1 told;
+      value = handed_on _ _ c.from_residual.result c.from_residual.ensures.1 told;
       after = sym (stays _ _ _ _ told);
       same = refl;
       shape = (refl, refl);
-      refused = untouched c.from-residual.result c.args.self.now;
+      refused = untouched c.from_residual.result c.args.self.now;
     }
 
-pub invariant-of-self : goal.invariant-of-self
-invariant-of-self c =
+pub invariant_of-self : goal.invariant_of-self
+invariant_of-self c =
     let u = c.args.self.now in
     let s : State Count = ledgered u.places u.size u.left u.rows u.stored in
-    let l = multiplies s c.args.to c.args.a c.args.b (sym c.in-ok-check-multiply.ensures.value) in
+    let l = multiplies s c.args.to c.args.a c.args.b (sym c.in_ok-check_multiply.ensures.value) in
     let some : 0 < u.left = l.some in
     let row : Record = record { to = c.args.to; a = c.args.a; b = c.args.b } in
     let made : c.product.result ≡ both counting.times (get_or u.places c.args.a None) (get_or u.places c.args.b None) = cc in (
@@ -47,7 +47,7 @@ returns c =
     let b = c.args.b in
     let s : State Count = ledgered places u.size u.left u.rows u.stored in
     let row : Record = record { to = to; a = a; b = b } in
-    let passed = c.in-ok-check-multiply.ensures.value in
+    let passed = c.in_ok-check_multiply.ensures.value in
     let l = multiplies s to a b (sym passed) in
     let some : 0 < u.left = l.some in
     let fits : u.size ≤ length places = omega arith in
