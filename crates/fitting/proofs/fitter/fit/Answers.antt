@@ -8,17 +8,17 @@ use Rattle.jobs.proofs.Stages.{read_left, read_is, read_fits, on_ok, unread_answ
 use Rattle.fitting.specs.Fitting.{fit_answer, FitsUnit, trimmed_in, PlacedIn, exponents_in}
 use Rattle.fitting.proofs.fitter.fit.Goals as goal
 
-pub slice-bounds-admit-end : goal.slice-bounds-admit-end
-slice-bounds-admit-end g c =
+pub slice_bounds-admit-end : goal.slice_bounds-admit-end
+slice_bounds-admit-end g c =
     let table : List Step = c.args.tables.now.steps in
     let sheet : Result (List Step) Refusal = read_sheet c.new-reader.result.text.now (length table) in
-    let fits : c.in-ok-count.count ≤ length c.read.new.table =
-    read_fits sheet sheet refl table c.read.new.table c.read.result c.in-ok-count.count
-    c.read.ensures.answer c.in-ok-count.ensures.value c.read.ensures.after in
+    let fits : c.in_ok-count.count ≤ length c.read.new.table =
+    read_fits sheet sheet refl table c.read.new.table c.read.result c.in_ok-count.count
+    c.read.ensures.answer c.in_ok-count.ensures.value c.read.ensures.after in
     search rules
 
-pub returns-in-err-count : goal.returns-in-err-count
-returns-in-err-count g c =
+pub returns-in_err-count : goal.returns-in_err-count
+returns-in_err-count g c =
     let u = c.args.unit.now in
     let m = g.U.Kind.kind u in
     let s = g.U.Unit.state u in
@@ -28,20 +28,20 @@ returns-in-err-count g c =
     let room : length table ≡ 128 = omega arith in
     let sheet : Result (List Step) Refusal = read_sheet c.args.text.now 128 in
     let same : read_sheet c.new-reader.result.text.now (length table) ≡ sheet = ap (λ t. read_sheet t.now (length table)) c.new-reader.ensures.text ∙ ap (read_sheet c.args.text.now) room in
-    let e = c.in-err-count.field-0.0 in
-    let on = c.in-err-count.ensures.value in
+    let e = c.in_err-count.field-0.0 in
+    let on = c.in_err-count.ensures.value in
     let said : c.read.result ≡ counted sheet = c.read.ensures.answer ∙ ap counted same in
-    let out = exit_is c.from-residual.result e c.from-residual.ensures.1 in
+    let out = exit_is c.from_residual.result e c.from_residual.ensures.1 in
     record {
       answer = out ∙ unread_answer sheet n c.read.result e said on (λ l. fit_answer m s n l x);
       after = unread_after sheet n c.read.result e said on (s ≡ s) (λ l. FitsUnit m s n l x (fit_answer m s n l x) s) refl;
       tables = (c.read.ensures.after ∙ ap (λ r. filled r table) same, unread_after sheet n c.read.result e said on _ _ (refl, refl, refl));
-      refused = unchanged_err c.from-residual.result e u u out refl;
+      refused = unchanged_err c.from_residual.result e u u out refl;
       same = refl;
     }
 
-pub returns-in-err-at-stage : goal.returns-in-err-at-stage
-returns-in-err-at-stage g c =
+pub returns-in_err-at_stage : goal.returns-in_err-at_stage
+returns-in_err-at_stage g c =
     let u = c.args.unit.now in
     let m = g.U.Kind.kind u in
     let s = g.U.Unit.state u in
@@ -52,18 +52,18 @@ returns-in-err-at-stage g c =
     let sheet : Result (List Step) Refusal = read_sheet c.args.text.now 128 in
     let own : Result (List Step) Refusal = read_sheet c.new-reader.result.text.now (length table) in
     let same : own ≡ sheet = ap (λ t. read_sheet t.now (length table)) c.new-reader.ensures.text ∙ ap (read_sheet c.args.text.now) room in
-    let steps : List Step = take (c.in-ok-count.count - 0) c.read.new.table in
+    let steps : List Step = take (c.in_ok-count.count - 0) c.read.new.table in
     let is : sheet ≡ Ok steps =
-    read_is sheet own same table c.read.new.table c.read.result c.in-ok-count.count c.read.ensures.answer c.in-ok-count.ensures.value c.read.ensures.after in
-    let left = read_left sheet own same table c.read.new.table c.read.result c.in-ok-count.count c.read.ensures.answer c.in-ok-count.ensures.value c.read.ensures.after in
-    let e = c.in-err-at-stage.field-0.0 in
-    let on = c.in-err-at-stage.ensures.value in
-    let out = exit_is c.from-residual-in-err-at-stage.result e c.from-residual-in-err-at-stage.ensures.1 in
+    read_is sheet own same table c.read.new.table c.read.result c.in_ok-count.count c.read.ensures.answer c.in_ok-count.ensures.value c.read.ensures.after in
+    let left = read_left sheet own same table c.read.new.table c.read.result c.in_ok-count.count c.read.ensures.answer c.in_ok-count.ensures.value c.read.ensures.after in
+    let e = c.in_err-at_stage.field-0.0 in
+    let on = c.in_err-at_stage.ensures.value in
+    let out = exit_is c.from_residual-in_err-at_stage.result e c.from_residual-in_err-at_stage.ensures.1 in
     record {
       answer = out ∙ stopped_answer sheet n steps is c.admit.result c.admit.ensures.answer e on (λ l. fit_answer m s n l x);
       after = stopped_after sheet n steps is c.admit.result c.admit.ensures.answer e on (s ≡ s) (λ l. FitsUnit m s n l x (fit_answer m s n l x) s) refl;
       tables = (left, stopped_after sheet n steps is c.admit.result c.admit.ensures.answer e on _ _ (refl, refl, refl));
-      refused = unchanged_err c.from-residual-in-err-at-stage.result e u u out refl;
+      refused = unchanged_err c.from_residual-in_err-at_stage.result e u u out refl;
       same = refl;
     }
 
@@ -80,13 +80,13 @@ returns g c =
     let sheet : Result (List Step) Refusal = read_sheet c.args.text.now 128 in
     let own : Result (List Step) Refusal = read_sheet c.new-reader.result.text.now (length table) in
     let same : own ≡ sheet = ap (λ t. read_sheet t.now (length table)) c.new-reader.ensures.text ∙ ap (read_sheet c.args.text.now) room in
-    let steps : List Step = take (c.in-ok-count.count - 0) c.read.new.table in
+    let steps : List Step = take (c.in_ok-count.count - 0) c.read.new.table in
     let is : sheet ≡ Ok steps =
-    read_is sheet own same table c.read.new.table c.read.result c.in-ok-count.count c.read.ensures.answer c.in-ok-count.ensures.value c.read.ensures.after in
-    let left = read_left sheet own same table c.read.new.table c.read.result c.in-ok-count.count c.read.ensures.answer c.in-ok-count.ensures.value c.read.ensures.after in
-    let on = c.in-ok-at-stage.ensures.value in
-    let held = on_ok Admission c.admit.result c.in-ok-at-stage.field-0 _ _ on c.admit.ensures.after in
-    let did = c.fit-plan-fitted in
+    read_is sheet own same table c.read.new.table c.read.result c.in_ok-count.count c.read.ensures.answer c.in_ok-count.ensures.value c.read.ensures.after in
+    let left = read_left sheet own same table c.read.new.table c.read.result c.in_ok-count.count c.read.ensures.answer c.in_ok-count.ensures.value c.read.ensures.after in
+    let on = c.in_ok-at_stage.ensures.value in
+    let held = on_ok Admission c.admit.result c.in_ok-at_stage.field-0 _ _ on c.admit.ensures.after in
+    let did = c.fit_plan-fitted in
     let r = did.result in
     let t = g.U.Unit.state did.new.unit in
     let k : ℕ = c.admit.new.self.exponent in
@@ -97,9 +97,9 @@ returns g c =
     let wrote = as_asked (λ _ l. (did.new.table ≡ trimmed_in l was.trimmed) × PlacedIn l was.cells did.new.cells × (did.new.exponents ≡ exponents_in l was.exponents))
     k n part steps held.0 held.1 (did.ensures.table, did.ensures.cells, did.ensures.exponents) in
     record {
-      answer = worked_answer sheet n steps is c.admit.result c.admit.ensures.answer c.in-ok-at-stage.field-0 on (λ l. fit_answer m s n l x) r c.at-stage-3.result ran c.at-stage-3.ensures.value;
-      after = worked_after sheet n steps is c.admit.result c.admit.ensures.answer c.in-ok-at-stage.field-0 on (t ≡ s) (λ l. FitsUnit m s n l x (fit_answer m s n l x) t) fits;
-      tables = (left, worked_after sheet n steps is c.admit.result c.admit.ensures.answer c.in-ok-at-stage.field-0 on _ _ wrote);
-      refused = kept_on Running r c.at-stage-3.result u did.new.unit c.at-stage-3.ensures.value did.ensures.refused;
+      answer = worked_answer sheet n steps is c.admit.result c.admit.ensures.answer c.in_ok-at_stage.field-0 on (λ l. fit_answer m s n l x) r c.at_stage-3.result ran c.at_stage-3.ensures.value;
+      after = worked_after sheet n steps is c.admit.result c.admit.ensures.answer c.in_ok-at_stage.field-0 on (t ≡ s) (λ l. FitsUnit m s n l x (fit_answer m s n l x) t) fits;
+      tables = (left, worked_after sheet n steps is c.admit.result c.admit.ensures.answer c.in_ok-at_stage.field-0 on _ _ wrote);
+      refused = kept_on Running r c.at_stage-3.result u did.new.unit c.at_stage-3.ensures.value did.ensures.refused;
       same = did.ensures.same;
     }
