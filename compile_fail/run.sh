@@ -4,8 +4,7 @@
 cd "$(dirname "$0")/.." || exit 1
 work=$(mktemp -d) || exit 1
 trap 'rm -rf "$work"' EXIT
-cp -r crates crates.txt "$work" || exit 1
-[ -d target ] && cp -r target "$work"
+tar -c --exclude=out crates crates.txt | tar -x -C "$work" || exit 1
 mkdir -p "$work/crates/refused_case/src"
 cp crates.txt "$work/crates.base"
 failed=0
@@ -15,8 +14,8 @@ for case in compile_fail/*.txt; do
   code=$(sed -n 's|^//! error: ||p' "$case")
   cp "$case" "$work/crates/refused_case/src/lib.rt"
   { cat "$work/crates.base"; echo "refused_case: $crates"; } > "$work/crates.txt"
-  said=$(cd "$work" && rt check refused_case 2>&1)
-  errors=$(printf '%s\n' "$said" | grep -oE 'refused_case/src/lib\.rt:[0-9:]+ error\[[a-z-]+\]' | grep -oE '\[[a-z-]+\]' | sort -u)
+  said=$(cd "$work/crates/refused_case" && rt check 2>&1)
+  errors=$(printf '%s\n' "$said" | grep -oE 'src/lib\.rt:[0-9:]+ error\[[a-z-]+\]' | grep -oE '\[[a-z-]+\]' | sort -u)
   if [ "$errors" = "[$code]" ]; then
     echo "$name: refused, $code"
   else

@@ -1,5 +1,7 @@
 //! Banks: a unit of 32 cells for each kind of value, with no records.
 //! `places` has what they share, `counts_bank`, `residues_bank` and `register_bank` the banks.
+#![tactic(auto)]
+
 pub mod counts_bank;
 mod places;
 pub mod register_bank;

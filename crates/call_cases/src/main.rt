@@ -1,6 +1,8 @@
 //! Lists of loads, readings, runs and jobs, good and bad, performed on each bank and on two piles of layers, and compared with answers that were written out from the rules;
 //! and straight runs for every kind, compared with repeated multiplication.
 //! `table` has the lists, `lists` performs them, `straight` has the straight runs, `numbers` the kinds as plain numbers.
+#![tactic(auto)]
+
 mod lists;
 mod numbers;
 mod straight;

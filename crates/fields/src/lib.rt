@@ -1,5 +1,7 @@
 //! Fields: numbers right-justified in columns of bytes.
 //! `parse` has the number that a field holds, `write` puts a number into a field.
+#![tactic(auto)]
+
 pub mod parse;
 pub mod write;
 

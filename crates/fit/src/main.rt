@@ -1,5 +1,7 @@
 //! The fitting program: fits the plan of a sheet to a card, and says what it did.
 //! `request` has what the program is asked, `cards` the fitting on a card of each kind, `report` what is printed.
+#![tactic(auto)]
+
 mod cards;
 mod report;
 mod request;

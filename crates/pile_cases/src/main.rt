@@ -1,6 +1,8 @@
 //! Piles of the three layers in all orders over each bank, and over a unit of another make, driven by one table of calls, good and bad,
 //! and compared, answer by answer and state by state, with a plain model of the rules.
 //! `numbers` has the kinds as plain numbers, `table` the calls, `model` the rules, `driving` the comparison, `piles` the orders, `ledger` the unit of another make.
+#![tactic(auto)]
+
 mod driving;
 mod ledger;
 mod model;

@@ -1,4 +1,6 @@
 //! The plan program: reads one line that names a method, a width and an exponent, and prints the plan's sheet or a refusal.
+#![tactic(auto)]
+
 ghost use Rattle.std.specs.Prelude.{◌≤◌, length, IfOk};
 
 use methods::{MOST_BYTES, respond};

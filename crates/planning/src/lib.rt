@@ -1,5 +1,7 @@
 //! What the planning methods share: the request that each checks first.
 //! The definitions of answers and tables are in specs/Planning, the bits of a number in specs/Bits.
+#![tactic(auto)]
+
 ghost use Rattle.std.specs.Prelude.{◌≡◌, ◌^◌, ◌<◌, ◌≤◌, true, OnOk};
 ghost use Rattle.planning.specs.Planning.{request};
 

@@ -1,5 +1,7 @@
 //! Plans: ascending addition chains, admitted once and then held by their type.
 //! `step` has a step, `limits` the bounds, `admit` the rules in their order, `plan` the admitted plan.
+#![tactic(auto)]
+
 mod admit;
 pub mod limits;
 pub mod plan;

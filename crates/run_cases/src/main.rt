@@ -1,6 +1,8 @@
 //! Runs the plans of every exponent up to 200, by every method and width, on the banks of every kind, and compares each power with repeated multiplication;
 //! and again in a window of as many cells as the plan needs, and of one less, where it is refused.
 //! Then runs them under a run sheet, and compares its records, worked in sums, with the values of the plan.
+#![tactic(auto)]
+
 use banks::{CountsBank, RegisterBank, ResiduesBank};
 use kinds::{Count, Kind, Residues};
 use methods::Method;

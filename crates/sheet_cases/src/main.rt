@@ -1,4 +1,6 @@
 //! Reads good and damaged sheets, and compares each answer with a second, plain reading of the rules: number, place, and the field at fault.
+#![tactic(auto)]
+
 use binary_plans::left_to_right;
 use plans::{MOST_STEPS, NO_STEP, Plan, Step};
 use refusals::Refusal;

@@ -1,6 +1,8 @@
 //! Sheets: a plan as text, one line of 32 bytes for each step.
 //! `write` has the sheet of a plan, `reader` the view that reads one; below them stand `column` with the columns of a line,
 //! `fault` with what is wrong with a line, `line` with a line written and read, and `text` with the count of a text's lines.
+#![tactic(auto)]
+
 mod column;
 mod fault;
 mod line;

@@ -1,4 +1,6 @@
 //! Plans every exponent up to 1,024 by every method and width, admits each plan, compares its length with the formula, trims it, and admits what is left.
+#![tactic(auto)]
+
 use methods::Method;
 use plans::{MOST_STEPS, Plan, Step};
 use power_tree::PARENTS;

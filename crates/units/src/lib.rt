@@ -1,5 +1,7 @@
 //! Units: cells that hold the values of a kind, and multiply them under an allowance.
 //! `unit` has the interface with its checks, `record` what a unit that keeps records adds for a multiplication.
+#![tactic(auto)]
+
 pub mod record;
 pub mod unit;
 

@@ -1,4 +1,6 @@
 //! Worked cases: the plans, needs and powers that were worked by hand, proved by one computed test, and tables of inputs that are run and compared.
+#![tactic(auto)]
+
 ghost use Rattle.std.specs.Prelude.{◌≡◌};
 ghost use Rattle.worked.specs.Cases.{WorkedCases, case_count};
 
