@@ -1,6 +1,6 @@
 //! Worked cases: the plans, needs and powers that were worked by hand, proved by one computed test, and tables of inputs that are run and compared.
 ghost use Rattle.std.specs.Prelude.{◌≡◌};
-ghost use Rattle.worked.specs.Cases.{WorkedCases, case_count};
+ghost use Rattle.worked.specs.Cases.{WorkedCases, OneCases, case_count};
 
 #[cfg(test)]
 mod tests;
@@ -9,6 +9,7 @@ mod tests;
 pub fn worked_cases() -> u8
     ensures value { result ≡ case_count }
     ensures cases { WorkedCases }
+    ensures ones { OneCases }
 {
-    22
+    15
 }
