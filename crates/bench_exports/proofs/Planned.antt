@@ -2,7 +2,7 @@
 use Rattle.std.proofs.Common.{◌≡◌, ℕ, suc, ◌+◌, ◌-◌, ◌/◌, ◌<◌, ◌≤◌, Bool, true, false, List, [], ◌∷◌, length, get_or, take, drop, set, Some, Ok, Err, Result, sym, refl, ap, ◌∙◌, subst, arith, drop_of_length-le}
 use Rattle.std.proofs.lemmas.List.{at_drop_more, take_all}
 use Rattle.refusals.specs.declared.refusal.Refusal.{Refusal}
-use Rattle.refusals.specs.Faults.{and_then, answer}
+use Rattle.refusals.specs.Faults.{answer}
 use Rattle.plans.specs.declared.step.Step.{Step}
 use Rattle.plans.specs.Admission.{admission}
 use Rattle.placing.specs.Placing.{need}
@@ -12,8 +12,7 @@ use Rattle.planning.proofs.Filling.{Filled, filled_more, filled_all}
 use Rattle.methods.specs.declared.method.Method.{Method}
 use Rattle.methods.specs.declared.request.PlanRequest.{PlanRequest}
 use Rattle.methods.specs.Methods.{method_of, plan_of, allows, request_by}
-use Rattle.sheets.specs.Reading.{counted}
-use Rattle.methods.specs.Requests.{plan_for}
+use Rattle.methods.specs.Requests.{and_then, plan_for, counted}
 use Rattle.methods.proofs.Choices.{tested, plan_by_lem, planned_tested, front_tested}
 use Rattle.bench_exports.specs.Plans.{mixed, checksum_from, checksum, long_step, long_from, longest, placed_longest}
 use Rattle.bench_exports.specs.Exports.{refused, checksum_or}

@@ -1,13 +1,14 @@
 -- The checksum of a method's plan, and the longest plans. Assumes nothing.
 use Rattle.std.specs.Prelude.{ℕ, zero, suc, ◌+◌, ◌-◌, ◌*◌, ◌/◌, ◌%◌, ◌^◌, cond, List, [], ◌∷◌, Result, nat_lt}
 use Rattle.refusals.specs.declared.refusal.Refusal.{Refusal}
-use Rattle.refusals.specs.Faults.{and_then, answer}
+use Rattle.refusals.specs.Faults.{answer}
 use Rattle.plans.specs.declared.step.Step.{Step}
 use Rattle.plans.specs.Admission.{admission}
 use Rattle.planning.specs.Planning.{step}
 use Rattle.placing.specs.Placing.{need}
 use Rattle.placing.specs.Answer.{place_fault}
 use Rattle.methods.specs.declared.request.PlanRequest.{PlanRequest}
+use Rattle.methods.specs.Requests.{and_then}
 
 -- a checksum with one step more: its value and both citations count
 abbrev pub mixed : ℕ → Step → ℕ

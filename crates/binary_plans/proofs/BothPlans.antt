@@ -5,11 +5,10 @@ use Rattle.std.proofs.lemmas.Nat.{mod_below}
 use Rattle.std.proofs.lemmas.Bool.Decides.{nat_tests}
 use Rattle.plans.specs.declared.step.Step.{Step}
 use Rattle.plans.specs.Chain.{Chain}
-use Rattle.bits.specs.Bits.{top, bit_at}
+use Rattle.planning.specs.Bits.{top, bit_at}
 use Rattle.planning.specs.Planning.{planned}
 use Rattle.planning.proofs.Filling.{Filled, filled_all}
-use Rattle.bits.proofs.Tops.{top_is}
-use Rattle.planning.proofs.Powers.{top_below}
+use Rattle.planning.proofs.Powers.{top_is, top_below}
 
 pub bit_small : (n b : ℕ) → bit_at n b < 2
 bit_small n b = mod_below (n / 2 ^ b) 2 (omega arith)
@@ -23,7 +22,7 @@ pub record Highest (n t : ℕ) : Type 0 where
 pub highest : {n t : ℕ} → n < 2 ^ 63 → 2 ^ t ≤ n → n < 2 * 2 ^ t → Highest n t
 highest {n} {t} b l h =
     let s = top_below t n l b in
-    let e = top_is t n l h in
+    let e = top_is t n (omega arith) l h in
     record { is = e; small = s; one = ap (λ (x : ℕ). n / 2 ^ x) e ∙ div-eq_of_lt-le (2 ^ t) (omega arith) (omega arith) }
 
 -- the table holds the whole plan: what the method answers, leaves and promises

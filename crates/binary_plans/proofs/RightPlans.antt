@@ -6,7 +6,7 @@ use Rattle.std.proofs.lemmas.List.{length-set}
 use Rattle.std.proofs.lemmas.Bool.{eq-eqb, ne_eqb, cases_eq}
 use Rattle.plans.specs.declared.step.Step.{Step}
 use Rattle.plans.specs.Chain.{value_at, Chain}
-use Rattle.bits.specs.Bits.{top, bit_at}
+use Rattle.planning.specs.Bits.{top, bit_at}
 use Rattle.planning.specs.Planning.{step}
 use Rattle.planning.proofs.Filling.{Filled, filled_none, filled_more}
 use Rattle.planning.proofs.Powers.{halves}

@@ -1,7 +1,7 @@
 //! From the highest bit down: double, and add 1 at a one bit.
 ghost use Rattle.std.specs.Prelude.{◌≡◌, ◌+◌, ◌-◌, ◌*◌, ◌^◌, ◌<◌, ◌≤◌, true, length, take, IfOk, OnOk, count_ones};
 ghost use Rattle.plans.specs.Chain.{Chain};
-ghost use Rattle.bits.specs.Bits.{top};
+ghost use Rattle.planning.specs.Bits.{top};
 ghost use Rattle.planning.specs.Planning.{planned, written};
 ghost use Rattle.binary_plans.specs.LeftToRight.{left_to_right, LeftToRightRule};
 

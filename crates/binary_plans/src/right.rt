@@ -1,7 +1,7 @@
 //! From bit 0 up: add the square to the sum at a one bit, and double the square.
 ghost use Rattle.std.specs.Prelude.{◌≡◌, ◌+◌, ◌-◌, ◌≤◌, true, length, take, IfOk, count_ones};
 ghost use Rattle.plans.specs.Chain.{Chain};
-ghost use Rattle.bits.specs.Bits.{top};
+ghost use Rattle.planning.specs.Bits.{top};
 ghost use Rattle.planning.specs.Planning.{planned, written};
 ghost use Rattle.binary_plans.specs.RightToLeft.{right_to_left, RightToLeftRule};
 

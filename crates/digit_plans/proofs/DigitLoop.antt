@@ -4,10 +4,9 @@ use lib.Pow.{shr_le}
 use lib.Seq.{sets, sets-eq, length-sets}
 use Rattle.std.proofs.lemmas.List.{length_push}
 use Rattle.plans.specs.declared.step.Step.{Step}
-use Rattle.bits.specs.Bits.{top}
+use Rattle.planning.specs.Bits.{top}
 use Rattle.planning.specs.Planning.{step}
-use Rattle.bits.proofs.Tops.{top_low, top_is}
-use Rattle.planning.proofs.Powers.{top_below}
+use Rattle.planning.proofs.Powers.{top_low, top_is, top_below}
 use Rattle.digit_plans.specs.Digits.{count_from, doubles, digit, one_digit, digits_from, lower, leading, digits_plan}
 use Rattle.digit_plans.proofs.Counting.{count_length}
 use Rattle.digit_plans.proofs.DigitPlans.{one_none, one_some, digits_end, digits_here, value_digit, digit_below, one_at_most, plan_low, plan_high, the_top}
@@ -125,7 +124,7 @@ pub record Listed (k n m : ℕ) (was t : List Step) (len place : ℕ) : Type 0 w
   pub top : place ≡ lower k n
 
 pub listed : {k n m : ℕ} {was t : List Step} {len high : ℕ} → m ≡ 2 ^ k → m ≤ n → t ≡ sets was 0 (count_from (m - 1 - 1) 0) → len ≡ m - 1 - 1 → high < 64 → 2 ^ high ≤ n → n < 2 * 2 ^ high → Listed k n m was t len (high / k)
-listed {k} {n} {m} {was} {t} {len} {high} is above table count b l h = record { is = is; above = above; table = table; count = count; top = ap (λ (x : ℕ). x / k) (sym (top_is high n l h)) }
+listed {k} {n} {m} {was} {t} {len} {high} is above table count b l h = record { is = is; above = above; table = table; count = count; top = ap (λ (x : ℕ). x / k) (sym (top_is high n b l h)) }
 
 module _ {k n m : ℕ} {was t : List Step} {len place : ℕ} (l : Listed k n m was t len place) where
   abbrev from : ℕ → ℕ → List Step

@@ -5,10 +5,9 @@ use lib.Seq.{sets, sets-eq}
 use Rattle.std.proofs.lemmas.List.{length_push, map-append}
 use Rattle.std.proofs.lemmas.Bool.{le-leb, lt-leb, eq-eqb, ne_eqb, cases_lt, cases_eq}
 use Rattle.plans.specs.declared.step.Step.{Step}
-use Rattle.bits.specs.Bits.{top}
+use Rattle.planning.specs.Bits.{top}
 use Rattle.planning.specs.Planning.{step}
-use Rattle.bits.proofs.Tops.{top_low, top_max}
-use Rattle.planning.proofs.Powers.{top_below, top_mono, top_product}
+use Rattle.planning.proofs.Powers.{top_low, top_max, top_below, top_mono, top_product}
 use Rattle.factor_plans.specs.Divisors.{Least, least_divisor}
 use Rattle.factor_plans.specs.Factor.{shifted, and_one, followed, factor_body, factor_with, factor_plan, FactorRule}
 use Rattle.factor_plans.proofs.Divisors.{divisor_least, least_same, divisor_le, divisor_times, quotient_low, quotient_less, quotient_is}
@@ -106,7 +105,7 @@ even_least n p a z = ⊎_elim (λ (k : p ≡ 2). k) (λ (k : p ≡ 2 → ⊥). a
 prime_short : (n : ℕ) → Least n n → n < 2 ^ 64 → Short (n - 1) → Short n
 prime_short n a b i =
     let h : 1 < n = a.above in
-    let one : 1 ≤ top n = top_max 1 n h in
+    let one : 1 ≤ top n = top_max 1 n b h in
     let m : top (n - 1) ≤ top n = top_mono (n - 1) n (omega arith) (omega arith) b in
     let g = prime_length n a in
     let even : n % 2 ≡ 0 → length (factor_plan n) + 1 ≤ 2 * top n = λ z. omega (arith, even_least n n a z, ap length (factor_none (n - 1) (omega (arith, even_least n n a z)))) in

@@ -1,10 +1,10 @@
 //! Method 3, by factors.
-ghost use Rattle.std.specs.Prelude.{◌≡◌, ◌+◌, ◌*◌, ◌^◌, ◌<◌, ◌≤◌, map, length, take, IfOk};
+ghost use Rattle.std.specs.Prelude.{◌≡◌, ◌+◌, ◌*◌, ◌^◌, ◌<◌, ◌≤◌, map, length, take, IfOk, nat_le};
 ghost use Rattle.std.proofs.lemmas.List.Edits.{sets};
 ghost use Rattle.plans.specs.Chain.{Chain};
-ghost use Rattle.bits.specs.Bits.{top};
+ghost use Rattle.planning.specs.Bits.{top};
 ghost use Rattle.planning.specs.Planning.{planned, written};
-ghost use Rattle.factor_plans.specs.Factor.{allows_factor, shifted, factor_plan, FactorRule};
+ghost use Rattle.factor_plans.specs.Factor.{shifted, factor_plan, FactorRule};
 
 use crate::divisor::least_divisor;
 use planning::check_request;
@@ -44,7 +44,7 @@ fn factor_into(n: u64, base: usize, scale: u64, table: &mut [Step]) -> usize
 /// Method 3. The plan of a prime is that of the number before it and a step that adds a_0; with the smallest divisor p above 1, the plan of a
 /// product n = p·q is the plan of p followed by the plan of q, its values times p and its a_0 being p.
 pub fn factor(n: u64, table: &mut [Step]) -> Result<usize, Refusal>
-    ensures answer { result ≡ planned (allows_factor n) n (factor_plan n) (length table.old) }
+    ensures answer { result ≡ planned (nat_le n 4294967295) n (factor_plan n) (length table.old) }
     ensures after { table.new ≡ written result (factor_plan n) table.old }
     ensures rule { FactorRule }
     ensures within { IfOk result (λ l. l ≤ 128) }

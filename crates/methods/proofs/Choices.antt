@@ -11,8 +11,7 @@ use Rattle.methods.specs.declared.method.Method.{Method as PlanMethod}
 use Rattle.methods.specs.declared.method.Method.TheVariants.{LeftToRight, RightToLeft, Factor, Digits, Tree}
 use Rattle.methods.specs.declared.request.PlanRequest.{PlanRequest}
 use Rattle.methods.specs.Methods.{method_of, plan_of, allows, request_by}
-use Rattle.sheets.specs.Reading.{counted}
-use Rattle.methods.specs.Requests.{plan_by, plan_for, steps_or}
+use Rattle.methods.specs.Requests.{plan_by, plan_for, counted, steps_or}
 
 -- a plan under two tests: the exponent, and then the method
 abbrev pub tested : Bool → Bool → List Step → Result (List Step) Refusal

@@ -17,9 +17,7 @@ use Rattle.sheets.proofs.Reread.{length_sheet, chain_writable}
 use Rattle.methods.specs.declared.method.Method.{Method as PlanMethod}
 use Rattle.methods.specs.declared.request.PlanRequest.{PlanRequest}
 use Rattle.methods.specs.Methods.{method_of, plan_of, allows}
-use Rattle.refusals.specs.Faults.{and_then}
-use Rattle.sheets.specs.Reading.{counted}
-use Rattle.methods.specs.Requests.{number_in, columns, fields_of, request_of, plan_by, plan_for, steps_or, asked, sheet_length, sheet_over, refusal_line, printed, response, room_answer, responded}
+use Rattle.methods.specs.Requests.{and_then, number_in, columns, fields_of, request_of, plan_by, plan_for, counted, steps_or, asked, sheet_length, sheet_over, refusal_line, printed, response, room_answer, responded}
 
 -- ---- the line of a refusal
 -- the columns before a are written, and then v in the next w: they were f, and the rest is as it was

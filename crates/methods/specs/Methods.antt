@@ -1,14 +1,14 @@
 -- The methods by their numbers, and the plan of each. Assumes nothing.
-use Rattle.std.specs.Prelude.{◌≡◌, ℕ, Bool, true, cond, List, Some, None, Option, Result, MatchResult, ◌==◌}
+use Rattle.std.specs.Prelude.{◌≡◌, ℕ, Bool, true, cond, List, Some, None, Option, Result, MatchResult, ◌==◌, nat_le}
 use Rattle.refusals.specs.declared.refusal.Refusal.{Refusal}
 use Rattle.plans.specs.declared.step.Step.{Step}
 use Rattle.planning.specs.Planning.{request}
 use Rattle.binary_plans.specs.LeftToRight.{left_to_right}
 use Rattle.binary_plans.specs.RightToLeft.{right_to_left}
-use Rattle.factor_plans.specs.Factor.{allows_factor, factor_plan}
+use Rattle.factor_plans.specs.Factor.{factor_plan}
 use Rattle.digit_plans.specs.Digits.{is_width, digits_plan}
 use Rattle.power_tree.specs.Tree.{tree_plan}
-use Rattle.tree_plans.specs.Method.{allows_tree, tree_request, Parents}
+use Rattle.tree_plans.specs.Method.{tree_request, Parents}
 use Rattle.methods.specs.declared.method.Method.{Method}
 use Rattle.methods.specs.declared.method.Method.TheVariants.{LeftToRight, RightToLeft, Factor, Digits, Tree}
 
@@ -34,9 +34,9 @@ plan_of Tree n = tree_plan n
 abbrev pub allows : Method → ℕ → Bool
 allows LeftToRight n = true
 allows RightToLeft n = true
-allows Factor n = allows_factor n
+allows Factor n = nat_le n 4294967295
 allows (Digits width) n = is_width width
-allows Tree n = allows_tree n
+allows Tree n = nat_le n 1024
 
 -- whether a method plans n into tables of so many steps and so many parents, which only the tree wants
 abbrev pub request_by : Method → ℕ → ℕ → ℕ → Result (Unit {0}) Refusal

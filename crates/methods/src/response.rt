@@ -2,8 +2,7 @@
 ghost use Rattle.std.specs.Prelude.{◌≡◌, ◌^◌, ◌<◌, ◌≤◌, ◌++◌, length, take, drop, IfOk};
 ghost use Rattle.plans.specs.Chain.{Chain};
 ghost use Rattle.refusals.specs.Codes.{code};
-ghost use Rattle.sheets.specs.Reading.{counted};
-ghost use Rattle.methods.specs.Requests.{plan_for, steps_or, asked, sheet_length, sheet_over, refusal_line, room_answer, responded};
+ghost use Rattle.methods.specs.Requests.{plan_for, steps_or, counted, asked, sheet_length, sheet_over, refusal_line, room_answer, responded};
 
 use crate::method::Method;
 use crate::request::{PlanRequest, parse_request};

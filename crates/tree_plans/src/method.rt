@@ -1,7 +1,7 @@
 //! The tree method.
 ghost use Rattle.std.specs.Prelude.{◌≡◌, ◌+◌, ◌-◌, ◌≤◌, ◌++◌, length, take, drop, IfOk, MatchResult, count_ones};
 ghost use Rattle.plans.specs.Chain.{Chain};
-ghost use Rattle.bits.specs.Bits.{top};
+ghost use Rattle.planning.specs.Bits.{top};
 ghost use Rattle.planning.specs.Planning.{length_or, written};
 ghost use Rattle.power_tree.specs.Growth.{grown_parents};
 ghost use Rattle.power_tree.specs.Rule.{TreeRule};

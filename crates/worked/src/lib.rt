@@ -2,7 +2,7 @@
 #![tactic(auto)]
 
 ghost use Rattle.std.specs.Prelude.{◌≡◌};
-ghost use Rattle.worked.specs.Cases.{WorkedCases, case_count};
+ghost use Rattle.worked.specs.Cases.{WorkedCases, OneCases, case_count};
 
 #[cfg(test)]
 mod tests;
@@ -11,6 +11,7 @@ mod tests;
 pub fn worked_cases() -> u8
     ensures value { result ≡ case_count }
     ensures cases { WorkedCases }
+    ensures ones { OneCases }
 {
-    22
+    15
 }

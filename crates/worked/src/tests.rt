@@ -181,6 +181,51 @@ fn admits_up_to_128_steps(rt: HostRuntime) -> Result<(), Fail> {
     }
 }
 
+// 1 2 3 4 7 14 23: no pair makes 23.
+#[test]
+fn refuses_a_value_that_is_no_sum(rt: HostRuntime) -> Result<(), Fail> {
+    let steps = [
+        Step {
+            j: 0,
+            k: 0,
+            value: 2,
+        },
+        Step {
+            j: 1,
+            k: 0,
+            value: 3,
+        },
+        Step {
+            j: 2,
+            k: 0,
+            value: 4,
+        },
+        Step {
+            j: 3,
+            k: 2,
+            value: 7,
+        },
+        Step {
+            j: 4,
+            k: 4,
+            value: 14,
+        },
+        Step {
+            j: 5,
+            k: 4,
+            value: 23,
+        },
+    ];
+    let mut plan = Plan::one();
+    match plan.admit(23, &steps) {
+        Ok(()) => Err(Fail::new("23 is admitted")),
+        Err(e) => {
+            assert!(rt; e.number() == 8 && e.place() == 6);
+            Ok(())
+        },
+    }
+}
+
 // Whether the steps 1 2 3 4 7 14, and then 23 from a_j and a_k, are refused since that is not the sum.
 fn no_sum(j: u16, k: u16) -> bool {
     let steps = [
@@ -220,7 +265,7 @@ fn no_sum(j: u16, k: u16) -> bool {
 
 // 1 2 3 4 7 14 23: none of the 21 pairs makes 23.
 #[test]
-fn refuses_a_value_that_is_no_sum(rt: HostRuntime) {
+fn refuses_each_pair_that_does_not_make_the_value(rt: HostRuntime) {
     for j in 0..6u16 {
         for k in 0..j + 1 {
             assert!(rt; no_sum(j, k));
