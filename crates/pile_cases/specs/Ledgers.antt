@@ -2,7 +2,7 @@
 use Rattle.std.specs.Prelude.{ℕ, min, List, [], take, replicate, Some, None, Option}
 use Rattle.units.specs.declared.record.Record.{Record}
 use Rattle.units.specs.Units.{State}
-use Rattle.run_sheet.specs.RunSheets.{numbered}
+use Rattle.run_sheet.specs.Sheets.{numbered}
 
 -- the records of the first rows, so many being stored
 abbrev pub entries : List Record → ℕ → List Record
