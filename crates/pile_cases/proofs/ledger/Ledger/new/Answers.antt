@@ -5,7 +5,7 @@ use Rattle.pile_cases.specs.LedgersLemmas.{made_empty}
 use Rattle.pile_cases.proofs.ledger.Ledger.new.Goals as goal
 
 pub invariant_of-result : goal.invariant_of-result
-invariant_of-result c = (omega arith, (refl, (none_native counting 255, (refl, (omega (arith, c.min.ensures), tt)))))
+invariant_of-result c = record { narrow = omega arith; full = refl; native = none_native counting 255; lined = refl; room = omega (arith, c.min.ensures) }
 
 pub returns : goal.returns
 returns c = record { empty = made_empty c.args.cells c.min.result c.args.allowance (omega arith) c.min.ensures }

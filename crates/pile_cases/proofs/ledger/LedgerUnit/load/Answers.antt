@@ -14,16 +14,14 @@ invariant_of-self c =
     let s : State Count = ledgered u.places u.size u.left u.rows u.stored in
     let cell = c.args.cell in
     let v = c.args.v in
-    let l = loads counting s cell v (sym c.in_ok-check_load.ensures.value) in (
-      u.narrow,
-      (
-        length-set u.places cell (Some v) ∙ u.full,
-        (
-          set_native counting u.places cell (Some v) (some_native counting v l.native) u.native,
-          (u.lined, (u.room, tt)),
-        ),
-      ),
-    )
+    let l = loads counting s cell v (sym c.in_ok-check_load.ensures.value) in
+    record {
+      narrow = u.narrow;
+      full = length-set u.places cell (Some v) ∙ u.full;
+      native = set_native counting u.places cell (Some v) (some_native counting v l.native) u.native;
+      lined = u.lined;
+      room = u.room;
+    }
 
 pub returns : goal.returns
 returns c =

@@ -27,16 +27,14 @@ invariant_of-self c =
     let l = multiplies s c.args.to c.args.a c.args.b (sym c.in_ok-check_multiply.ensures.value) in
     let some : 0 < u.left = l.some in
     let row : Record = record { to = c.args.to; a = c.args.a; b = c.args.b } in
-    let made : c.product.result ≡ both counting.times (get_or u.places c.args.a None) (get_or u.places c.args.b None) = cc in (
-      u.narrow,
-      (
-        length-set u.places c.args.to c.product.result ∙ u.full,
-        (
-          set_native counting u.places c.args.to c.product.result (rw made (both_native counting counts_closed _ _ (u.native c.args.a) (u.native c.args.b))) u.native,
-          (length-set u.rows u.stored row ∙ u.lined, (omega arith, tt)),
-        ),
-      ),
-    )
+    let made : c.product.result ≡ both counting.times (get_or u.places c.args.a None) (get_or u.places c.args.b None) = cc in
+    record {
+      narrow = u.narrow;
+      full = length-set u.places c.args.to c.product.result ∙ u.full;
+      native = set_native counting u.places c.args.to c.product.result (rw made (both_native counting counts_closed _ _ (u.native c.args.a) (u.native c.args.b))) u.native;
+      lined = length-set u.rows u.stored row ∙ u.lined;
+      room = omega arith;
+    }
 
 pub returns : goal.returns
 returns c =
