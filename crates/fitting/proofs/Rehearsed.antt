@@ -18,7 +18,7 @@ use Rattle.kinds.specs.Counting.{counting}
 use Rattle.units.specs.declared.record.Record.{Record}
 use Rattle.units.specs.Units.{State}
 use Rattle.banks.specs.Banks.{fresh}
-use Rattle.run_sheet.specs.RunSheets.{sheeted}
+use Rattle.run_sheet.specs.Sheets.{sheeted}
 use Rattle.run_laws.specs.Runs.{run_fault, cell_of, Success}
 use Rattle.run_laws.specs.Traces.{sum_of, sums, one_in}
 use Rattle.fitting.specs.Fitting.{rehearsal_fault}

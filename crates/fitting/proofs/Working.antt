@@ -2,7 +2,7 @@
 use Rattle.std.proofs.Common.{◌≡◌, ℕ, suc, ◌+◌, ◌-◌, ◌^◌, ◌<◌, ◌≤◌, min, List, [], ◌∷◌, ◌++◌, length, get_or, take, drop, set, Some, None, Option, sym, refl, ap, ◌∙◌, subst, append_assoc, append-nil, add-one, arith, take-append-drop, length-take, drop-cons, get_or-take, drop-drop, take-suc-set, drop-set-lt}
 use lib.Seq.{drop-length, get_or-append_seam}
 use Rattle.units.specs.declared.record.Record.{Record}
-use Rattle.run_sheet.specs.RunSheets.{numbered}
+use Rattle.run_sheet.specs.Sheets.{numbered}
 use Rattle.run_sheet.proofs.Sheets.{at_number}
 use Rattle.run_laws.specs.Traces.{sum_of, sums}
 

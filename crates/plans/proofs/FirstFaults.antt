@@ -2,10 +2,9 @@
 use Rattle.std.proofs.Common.{◌≡◌, ℕ, zero, suc, ◌+◌, ◌^◌, ◌<◌, ◌≤◌, true, false, cond, ◌&&◌, eqb, ltb, leb, ◌⊎◌, List, length, drop, IfErr, Ok, Err, sym, refl, ap, ◌∙◌, subst, inl, inr, ⊎_elim, arith}
 use Rattle.std.proofs.lemmas.Bool.Decides.{nat_tests}
 use Rattle.std.proofs.lemmas.Bool.{cond_both, cases_lt, eqb-true, eqb-false, leb-true, leb-false}
-use Rattle.std.specs.Result.{result_and}
 use Rattle.refusals.specs.declared.refusal.Refusal.TheVariants.{Exponent, TooLong, Citation, NotSum, NotRising, NotReached}
 use Rattle.plans.specs.declared.step.Step.{Step}
-use Rattle.plans.specs.Admission.{Answer, step_answer, answer_from, admission}
+use Rattle.plans.specs.Admission.{Answer, step_answer, then, answer_from, admission}
 use Rattle.plans.specs.Chain.{step_at, value_at, CitesAt, SumsAt, RisesAt, Reaches}
 use Rattle.plans.specs.FirstFault.{Keeps, KeptBefore, FirstFault}
 use Rattle.plans.proofs.Admissions.{kept_from_ok, answer_here, answer_end, admission_inside}
@@ -14,7 +13,7 @@ use Rattle.plans.proofs.Admissions.{kept_from_ok, answer_here, answer_end, admis
 abbrev Faulty : ℕ → List Step → Answer → Type 0
 Faulty n s r = IfErr r (λ e. FirstFault n s e)
 
-other_faulty : (n : ℕ) (s : List Step) (x y : Answer) → Faulty n s x → (x ≡ Ok tt → Faulty n s y) → Faulty n s (result_and x y)
+other_faulty : (n : ℕ) (s : List Step) (x y : Answer) → Faulty n s x → (x ≡ Ok tt → Faulty n s y) → Faulty n s (then x y)
 other_faulty n s (Ok u) y f g = g refl
 other_faulty n s (Err e) y f g = f
 

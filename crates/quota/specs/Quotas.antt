@@ -2,6 +2,6 @@
 use Rattle.std.specs.Prelude.{ℕ, ◌-◌, min}
 use Rattle.units.specs.Units.{State}
 
--- a quota of `limit` multiplications, of which `used` are spent
+-- a quota of q multiplications, of which `used` are spent
 abbrev pub under_quota : {V : Type 0} → ℕ → ℕ → State V → State V
-under_quota limit used s = record { cells = s.cells; left = min s.left (limit - used); log = s.log }
+under_quota q used s = record { cells = s.cells; left = min s.left (q - used); log = s.log }

@@ -1,5 +1,5 @@
 //! A limit on the multiplications that reach a unit.
-ghost use Rattle.std.specs.Prelude.{◌≡◌, ◌+◌, ◌^◌, ◌<◌, ◌≤◌};
+ghost use Rattle.std.specs.Prelude.{◌≡◌, ◌+◌, ◌^◌, ◌<◌, ◌≤◌, true, is_err};
 ghost use Rattle.refusals.specs.Faults.{settle, Unchanged};
 ghost use Rattle.units.specs.Units.{SameShape, load_answer, load_after, reading, multiply_fault, multiplied, multiply_answer, multiply_after};
 ghost use Rattle.quota.specs.Quotas.{under_quota};
@@ -107,6 +107,7 @@ impl<U: Unit> Unit for Quota<U> {
         ensures below { let q = self.old in let s = U.Unit.state q.below in U.Unit.state self.new.below ≡ settle (multiply_fault (under_quota q.limit q.used s) to a b) s (multiplied (U.Kind.kind q.below) s to a b) }
         ensures used { let q = self.old in self.new.used ≡ settle (multiply_fault (under_quota q.limit q.used (U.Unit.state q.below)) to a b) q.used (q.used + 1) }
         ensures limit { self.new.limit ≡ self.old.limit }
+        ensures kept { is_err result ≡ true → self.new ≡ self.old }
         ensures refused { Unchanged result self.old self.new }
     {
         self.check_multiply(to, a, b)?;

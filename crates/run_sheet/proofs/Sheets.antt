@@ -10,7 +10,7 @@ use Rattle.units.specs.declared.record.Record.{Record}
 use Rattle.units.specs.Units.{State, multiplied}
 use Rattle.units.proofs.Passing.{Multiplies}
 use Rattle.run_sheet.specs.declared.run_sheet.RunSheet.{RunSheet}
-use Rattle.run_sheet.specs.RunSheets.{sheeted, numbered}
+use Rattle.run_sheet.specs.Sheets.{sheeted, numbered}
 
 -- a multiplication that the run sheet accepts is accepted below
 pub multiplies_below : {V : Type 0} (s : State V) (rows : List Record) (n to a b : ℕ) → Multiplies (sheeted rows n s) to a b → Multiplies s to a b

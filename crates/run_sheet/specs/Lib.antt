@@ -1,1 +1,1 @@
-pub mod RunSheets
+pub mod Sheets

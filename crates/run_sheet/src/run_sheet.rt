@@ -1,8 +1,8 @@
 //! A record of each multiplication that reaches a unit.
-ghost use Rattle.std.specs.Prelude.{◌≡◌, ◌≤◌, length, take};
+ghost use Rattle.std.specs.Prelude.{◌≡◌, ◌≤◌, true, length, take, is_err};
 ghost use Rattle.refusals.specs.Faults.{settle, Unchanged};
 ghost use Rattle.units.specs.Units.{SameShape, load_answer, load_after, reading, multiply_fault, multiplied, multiply_answer, multiply_after};
-ghost use Rattle.run_sheet.specs.RunSheets.{sheeted, numbered};
+ghost use Rattle.run_sheet.specs.Sheets.{sheeted, numbered};
 ghost use Rattle.std.proofs.Common.{rules, arith};
 
 use kinds::Kind;
@@ -121,6 +121,7 @@ impl<U: Unit> Unit for RunSheet<U> {
         ensures same { U.Kind.kind self.new.below ≡ U.Kind.kind self.old.below }
         ensures shape { let q = self.old in let t = self.new in SameShape (sheeted q.records q.len (U.Unit.state q.below)) (sheeted t.records t.len (U.Unit.state t.below)) }
         ensures below { let q = self.old in let s = U.Unit.state q.below in U.Unit.state self.new.below ≡ settle (multiply_fault (sheeted q.records q.len s) to a b) s (multiplied (U.Kind.kind q.below) s to a b) }
+        ensures kept { is_err result ≡ true → self.new ≡ self.old }
         ensures refused { Unchanged result self.old self.new }
     {
         self.check_multiply(to, a, b)?;

@@ -9,8 +9,7 @@ use Rattle.sheets.specs.declared.column.Column.{Column}
 use Rattle.sheets.specs.declared.column.Column.TheVariants.{Number, First, Second, Value}
 use Rattle.sheets.specs.Columns.{start, width, cell, put_cell}
 use Rattle.sheets.specs.Lines.{line, line_bytes, newline, Writable}
-use Rattle.refusals.specs.Faults.{and_then}
-use Rattle.sheets.specs.Reading.{fault, number_in, numbers, numbered, read_line}
+use Rattle.sheets.specs.Reading.{fault, number_in, and_then, numbers, numbered, read_line}
 use borrow.Rule.Slice.PartMut.{put_mid}
 use Rattle.std.proofs.lemmas.Bool.{ne_eqb}
 use Rattle.std.proofs.lemmas.List.{append_assoc, take_at, drop_at, drop-drop, set_at, length-append, length-drop, length-take-le}

@@ -1,7 +1,6 @@
 -- The steps that were read are written as the same text.
 use Rattle.std.proofs.Common.{◌≡◌, ℕ, zero, suc, ◌+◌, ◌-◌, ◌*◌, ◌^◌, ◌<◌, ◌≤◌, Bool, true, false, cond, eqb, List, [], ◌∷◌, ◌++◌, length, get_or, take, drop, is_ok, IfOk, Some, None, Ok, Err, Decides, Option, Result, sym, refl, ap, ◌∙◌, subst, arith}
 use Rattle.refusals.specs.declared.refusal.Refusal.{Refusal}
-use Rattle.refusals.specs.Faults.{and_then}
 use Rattle.fields.specs.Field.{field, field_value}
 use Rattle.fields.proofs.Inverse.{write_field}
 use Rattle.plans.specs.declared.step.Step.{Step}
@@ -11,7 +10,7 @@ use Rattle.sheets.specs.declared.column.Column.TheVariants.{Number, First, Secon
 use Rattle.sheets.specs.Columns.{width, cell}
 use Rattle.sheets.specs.Lines.{line, line_bytes, newline, Writable}
 use Rattle.sheets.specs.Sheets.{sheet, sheet_from, AllWritable, IsSheet}
-use Rattle.sheets.specs.Reading.{number_in, read_line, line_at, line_in, Found, or_next, first_fault, step_of, steps_from, text_lines, room_for, read_lines, read_sheet, counted, filled, unless_found}
+use Rattle.sheets.specs.Reading.{number_in, and_then, read_line, line_at, line_in, Found, or_next, first_fault, step_of, steps_from, text_lines, room_for, read_lines, read_sheet, counted, filled, unless_found}
 use Rattle.sheets.specs.Places.{Place, outset, stand, standing, stand_in}
 use Rattle.std.proofs.lemmas.Bool.{false≢true, eqb-true}
 use Rattle.std.proofs.lemmas.List.{take_at, length-drop, length-take-le, drop-drop, drop_all, drop_more, take-append-drop}

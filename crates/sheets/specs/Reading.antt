@@ -2,7 +2,6 @@
 use Rattle.std.specs.Prelude.{ℕ, zero, suc, ◌+◌, ◌-◌, ◌*◌, ◌/◌, ◌%◌, cond, List, [], ◌∷◌, ◌++◌, length, take, drop, Some, None, Ok, Err, Option, Result, ◌==◌, nat_le, slice_index}
 use Rattle.refusals.specs.declared.refusal.Refusal.{Refusal}
 use Rattle.refusals.specs.declared.refusal.Refusal.TheVariants.{TooLong, SheetLine, Field, StepNumber, TableShort}
-use Rattle.refusals.specs.Faults.{and_then}
 use Rattle.fields.specs.Field.{field_value}
 use Rattle.plans.specs.declared.step.Step.{Step}
 use Rattle.plans.specs.Chain.{no_step}
@@ -20,6 +19,11 @@ fault e c = record { refusal = e; column = c }
 abbrev pub number_in : ℕ → Column → Option ℕ → Result ℕ Fault
 number_in i c (Some v) = Ok v
 number_in i c None = Err (fault (Field i) (Some c))
+
+-- what comes after, unless there is a fault
+abbrev pub and_then : {X Y : Type 0} → Result X Fault → (X → Result Y Fault) → Result Y Fault
+and_then (Ok x) go = go x
+and_then (Err f) go = Err f
 
 -- what comes of the numbers in the columns of line i, read from the left
 abbrev pub numbers : ℕ → List ℕ → (ℕ → ℕ → ℕ → ℕ → Result Step Fault) → Result Step Fault

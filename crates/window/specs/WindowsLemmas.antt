@@ -1,12 +1,12 @@
 -- What a call means through a window. Assumes nothing.
-use Rattle.std.specs.Prelude.{◌≡◌, ℕ, zero, suc, ◌+◌, ◌-◌, ◌<◌, ◌≤◌, min, List, [], ◌∷◌, length, get_or, take, drop, set, is_some, Some, None, Ok, Err, Option, slice_index_or, slice_set, refl}
+use Rattle.std.specs.Prelude.{◌≡◌, ℕ, zero, suc, ◌+◌, ◌-◌, ◌<◌, ◌≤◌, min, List, [], ◌∷◌, length, get_or, take, drop, set, Some, None, Ok, Err, Option, slice_index_or, slice_set, refl}
 use Rattle.std.proofs.Common.{sym, ap, ◌∙◌, arith, length-take, length-drop, get_or-take, get_or-drop, lt-ltb}
 use Rattle.std.proofs.Math.Seq.{take-set-lt}
 use Rattle.std.proofs.lemmas.List.{drop-set-add}
 use Rattle.refusals.specs.declared.refusal.Refusal.{Refusal}
 use Rattle.refusals.specs.declared.refusal.Refusal.TheVariants.{CellEmpty}
 use Rattle.kinds.specs.Kinds.{Meaning}
-use Rattle.units.specs.Units.{State, both, loaded, content, reading, multiplied, SameShape, AllNative}
+use Rattle.units.specs.Units.{State, filled, both, loaded, content, reading, multiplied, SameShape, AllNative}
 use Rattle.units.proofs.Passing.{Loads, Multiplies}
 use Rattle.window.specs.Windows.{windowed}
 
@@ -86,8 +86,8 @@ module _ {V : Type 0} (s : State V) (w z : ℕ) where
       to_there = inside to l.to_there;
       a_there = inside a l.a_there;
       b_there = inside b l.b_there;
-      a_filled = sym (ap is_some (win_at a l.a_there)) ∙ l.a_filled;
-      b_filled = sym (ap is_some (win_at b l.b_there)) ∙ l.b_filled;
+      a_filled = sym (ap filled (win_at a l.a_there)) ∙ l.a_filled;
+      b_filled = sym (ap filled (win_at b l.b_there)) ∙ l.b_filled;
       some = l.some;
     }
 

@@ -1,5 +1,5 @@
 //! Some of the cells of a unit.
-ghost use Rattle.std.specs.Prelude.{◌≡◌, ◌+◌, IfOk, Ok};
+ghost use Rattle.std.specs.Prelude.{◌≡◌, ◌+◌, true, is_err, IfOk, Ok};
 ghost use Rattle.refusals.specs.Faults.{settle, Unchanged};
 ghost use Rattle.units.specs.Units.{SameShape, load_fault, loaded, load_answer, load_after, reading, multiply_fault, multiplied, multiply_answer, multiply_after};
 ghost use Rattle.window.specs.Windows.{windowed};
@@ -84,6 +84,7 @@ impl<U: Unit> Unit for Window<U> {
         ensures below { let q = self.old in let m = U.Kind.kind q.below in let s = U.Unit.state q.below in U.Unit.state self.new.below ≡ settle (load_fault m (windowed q.from q.size s) cell v) s (loaded s (q.from + cell) v) }
         ensures from { self.new.from ≡ self.old.from }
         ensures size { self.new.size ≡ self.old.size }
+        ensures kept { is_err result ≡ true → self.new ≡ self.old }
         ensures refused { Unchanged result self.old self.new }
     {
         self.check_load(cell, v)?;
@@ -113,6 +114,7 @@ impl<U: Unit> Unit for Window<U> {
         ensures below { let q = self.old in let m = U.Kind.kind q.below in let s = U.Unit.state q.below in U.Unit.state self.new.below ≡ settle (multiply_fault (windowed q.from q.size s) to a b) s (multiplied m s (q.from + to) (q.from + a) (q.from + b)) }
         ensures from { self.new.from ≡ self.old.from }
         ensures size { self.new.size ≡ self.old.size }
+        ensures kept { is_err result ≡ true → self.new ≡ self.old }
         ensures refused { Unchanged result self.old self.new }
     {
         self.check_multiply(to, a, b)?;

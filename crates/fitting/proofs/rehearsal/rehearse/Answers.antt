@@ -9,7 +9,7 @@ use Rattle.kinds.specs.declared.counts.Count.{Count}
 use Rattle.kinds.specs.Counting.{counting}
 use Rattle.units.specs.Units.{State}
 use Rattle.banks.specs.Banks.{bank}
-use Rattle.run_sheet.specs.RunSheets.{sheeted}
+use Rattle.run_sheet.specs.Sheets.{sheeted}
 use Rattle.run_laws.specs.Runs.{run_fault}
 use Rattle.fitting.specs.Fitting.{rehearsal_fault, rehearsed_in}
 use Rattle.refusals.proofs.Answered.{answer_none, answer_some, settle_none}

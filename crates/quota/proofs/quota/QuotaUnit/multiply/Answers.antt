@@ -1,4 +1,6 @@
-use Rattle.std.proofs.Common.{◌≡◌, ◌+◌, sym, refl, ap, ◌∙◌, arith}
+use Rattle.std.proofs.Common.{◌≡◌, ◌+◌, Ok, sym, refl, ap, ◌∙◌, arith}
+use Rattle.refusals.specs.declared.refusal.Refusal.{Refusal}
+use Rattle.refusals.proofs.Answered.{unchanged_kept}
 use Rattle.units.specs.Units.{State, multiply_fault, multiplied}
 use Rattle.units.proofs.Passing.{multiplies, multiply_accepted, handed_on, no_refusal, settles, stays, untouched}
 use Rattle.quota.specs.Quotas.{under_quota}
@@ -17,6 +19,7 @@ returns-in_err-check_multiply g c =
       below = sym (stays _ _ _ _ told);
       used = sym (stays _ _ _ _ told);
       limit = refl;
+      kept = unchanged_kept c.from_residual.result q q (untouched c.from_residual.result q);
       refused = untouched c.from_residual.result q;
     }
 
@@ -57,5 +60,6 @@ returns g c =
       below = went ∙ sym (settles (multiply_fault above to a b) s (multiplied m s to a b) (sym passed));
       used = sym (settles (multiply_fault above to a b) q.used (q.used + 1) (sym passed));
       limit = refl;
+      kept = unchanged_kept {X = Unit {0}} {E = Refusal} (Ok tt) q _ tt;
       refused = tt;
     }

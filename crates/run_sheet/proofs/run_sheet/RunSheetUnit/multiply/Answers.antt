@@ -1,7 +1,9 @@
-use Rattle.std.proofs.Common.{◌≡◌, ◌+◌, ◌<◌, length, set, sym, refl, ap, ◌∙◌, arith}
+use Rattle.std.proofs.Common.{◌≡◌, ◌+◌, ◌<◌, length, set, Ok, sym, refl, ap, ◌∙◌, arith}
+use Rattle.refusals.specs.declared.refusal.Refusal.{Refusal}
+use Rattle.refusals.proofs.Answered.{unchanged_kept}
 use Rattle.units.specs.Units.{State, multiply_fault, multiplied}
 use Rattle.units.proofs.Passing.{multiplies, multiply_accepted, handed_on, no_refusal, settles, stays, untouched}
-use Rattle.run_sheet.specs.RunSheets.{sheeted}
+use Rattle.run_sheet.specs.Sheets.{sheeted}
 use Rattle.run_sheet.proofs.Sheets.{multiplies_below, one_more}
 use Rattle.run_sheet.proofs.run_sheet.RunSheetUnit.multiply.Goals as goal
 
@@ -15,6 +17,7 @@ returns-in_err-check_multiply g c =
       same = refl;
       shape = (refl, refl);
       below = sym (stays _ _ _ _ told);
+      kept = unchanged_kept c.from_residual.result q q (untouched c.from_residual.result q);
       refused = untouched c.from_residual.result q;
     }
 
@@ -47,5 +50,6 @@ returns g c =
       same = told.same;
       shape = (told.shape.0, refl);
       below = went ∙ sym (settles (multiply_fault above to a b) s (multiplied m s to a b) (sym passed));
+      kept = unchanged_kept {X = Unit {0}} {E = Refusal} (Ok tt) q _ tt;
       refused = tt;
     }

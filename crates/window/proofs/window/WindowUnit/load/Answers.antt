@@ -1,4 +1,5 @@
 use Rattle.std.proofs.Common.{◌≡◌, ◌+◌, Ok, sym, refl, ap, ◌∙◌, arith}
+use Rattle.refusals.proofs.Answered.{unchanged_kept}
 use Rattle.units.specs.Units.{State, load_fault, loaded}
 use Rattle.units.proofs.Passing.{loads, load_accepted, handed_on, settles, stays, untouched, may_change}
 use Rattle.window.specs.Windows.{windowed}
@@ -17,6 +18,7 @@ returns-in_err-check_load g c =
       below = sym (stays _ _ _ _ told);
       from = refl;
       size = refl;
+      kept = unchanged_kept c.from_residual.result q q (untouched c.from_residual.result q);
       refused = untouched c.from_residual.result q;
     }
 
@@ -53,5 +55,6 @@ returns g c =
       below = went ∙ sym (settles (load_fault m above cell v) s (loaded s (w + cell) v) (sym passed));
       from = refl;
       size = refl;
+      kept = unchanged_kept c.load.result q _ (may_change c.load.result q _ ok);
       refused = may_change c.load.result q _ ok;
     }

@@ -1,4 +1,5 @@
 use Rattle.std.proofs.Common.{◌≡◌, ◌+◌, Ok, sym, refl, ap, ◌∙◌, arith}
+use Rattle.refusals.proofs.Answered.{unchanged_kept}
 use Rattle.units.specs.Units.{State, multiply_fault, multiplied}
 use Rattle.units.proofs.Passing.{multiplies, multiply_accepted, handed_on, settles, stays, untouched, may_change}
 use Rattle.window.specs.Windows.{windowed}
@@ -17,6 +18,7 @@ returns-in_err-check_multiply g c =
       below = sym (stays _ _ _ _ told);
       from = refl;
       size = refl;
+      kept = unchanged_kept c.from_residual.result q q (untouched c.from_residual.result q);
       refused = untouched c.from_residual.result q;
     }
 
@@ -70,5 +72,6 @@ returns g c =
       below = went ∙ sym (settles (multiply_fault above to a b) s (multiplied m s (w + to) (w + a) (w + b)) (sym passed));
       from = refl;
       size = refl;
+      kept = unchanged_kept c.multiply.result q _ (may_change c.multiply.result q _ ok);
       refused = may_change c.multiply.result q _ ok;
     }
