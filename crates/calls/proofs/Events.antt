@@ -13,8 +13,7 @@ use Rattle.kinds.specs.Kinds.{Meaning}
 use Rattle.kinds.specs.Powers.{power}
 use Rattle.units.specs.Units.{State, load_fault, loaded}
 use Rattle.run_laws.specs.Runs.{run_fault}
-use Rattle.run_laws.specs.Law.{Event, asked, Law}
-use Rattle.run_laws.proofs.Effects.{Effect, InTurn}
+use Rattle.run_laws.specs.Effects.{Event, asked, Effect, InTurn, Law}
 use Rattle.run_laws.proofs.Effected.{accepted_effect, refused_effect, plain_effect, still_effect}
 use Rattle.run_laws.proofs.Lawful.{lawful}
 use Rattle.runs.specs.declared.raised.Raised.{Raised}

@@ -9,7 +9,7 @@ use Rattle.plans.specs.declared.plan.Plan.{Plan}
 use Rattle.sheets.specs.Reading.{read_sheet, filled}
 use Rattle.kinds.specs.Kinds.{Meaning}
 use Rattle.units.specs.Units.{State, load_answer, load_after, reading}
-use Rattle.run_laws.specs.Law.{Event, Asked, asked}
+use Rattle.run_laws.specs.Effects.{Event, Asked, asked}
 use Rattle.runs.specs.declared.raised.Raised.{Raised}
 use Rattle.runs.specs.Answers.{run_answer, Ran}
 use Rattle.calls.specs.declared.call.Call.{Call}

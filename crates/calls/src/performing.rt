@@ -1,6 +1,6 @@
 //! Calls on one unit: one, and a list of them made in order.
 ghost use Rattle.std.specs.Prelude.{◌≡◌, [], ◌∷◌, length, drop, OnOk};
-ghost use Rattle.run_laws.specs.Law.{Law};
+ghost use Rattle.run_laws.specs.Effects.{Law};
 ghost use Rattle.refusals.specs.Faults.{Unchanged};
 ghost use Rattle.calls.specs.Lists.{setting, Made, Kept, turns, Performed, events, list_answer};
 

@@ -11,7 +11,7 @@ use Rattle.kinds.specs.Kinds.{Meaning}
 use Rattle.kinds.specs.Powers.{power}
 use Rattle.units.specs.Units.{State}
 use Rattle.run_laws.specs.Runs.{run_fault, Success}
-use Rattle.run_laws.specs.Law.{Event, asked, Law}
+use Rattle.run_laws.specs.Effects.{Event, asked, Law}
 use Rattle.fitting.specs.declared.fitted.Size.{Size}
 use Rattle.fitting.specs.declared.fitted.Fitted.{Fitted}
 
