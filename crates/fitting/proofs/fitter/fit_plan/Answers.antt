@@ -8,91 +8,93 @@ use Rattle.kinds.specs.Powers.{power}
 use Rattle.run_laws.specs.Runs.{run_fault}
 use Rattle.fitting.specs.Fitting.{rehearsal_fault}
 use Rattle.refusals.proofs.Answered.{answer_none, answer_some, answer_value, exit_is, unchanged_err}
-use Rattle.fitting.proofs.Trims.{trim_never, trim_length, front_is, admit_never, place_never, start_is, placed, rehearsed, not_rehearsed, not_run, fits, unit_kept, unit_run}
+use Rattle.fitting.proofs.Trims.{trim_never, trim_length, front_is, admit_never, place_never, start_is, placed, placed_cells, rehearsed, not_rehearsed, not_run, fits, unit_kept, unit_run}
 use Rattle.fitting.proofs.fitter.fit_plan.Goals as goal
 
-pub returns-in-err-length : goal.returns-in-err-length
-returns-in-err-length g c =
+pub returns-in_err-length : goal.returns-in_err-length
+returns-in_err-length g c =
     let plan = c.args.plan.now in
     let room : length c.args.table.now ≡ 128 = omega arith in
-    trim_never plan.exponent plan.steps.now (chain_of_lem plan) (length c.args.table.now) c.in-err-length.field-0.0 room c.in-err-length.ensures.answer
+    trim_never plan.exponent plan.steps.now (chain_of_lem plan) (length c.args.table.now) c.in_err-length.field-0.0 room c.in_err-length.ensures.answer
 
-pub returns-in-err-admit : goal.returns-in-err-admit
-returns-in-err-admit g c =
+pub returns-in_err-admit : goal.returns-in_err-admit
+returns-in_err-admit g c =
     let plan = c.args.plan.now in
     let room : length c.args.table.now ≡ 128 = omega arith in
-    let told = c.in-ok-length.ensures in
-    let k : ℕ = c.in-ok-length.length in
+    let told = c.in_ok-length.ensures in
+    let k : ℕ = c.in_ok-length.length in
     let part : take (k - 0) c.trim.new.table ≡ trimmed plan.steps.now =
     front_is plan.exponent plan.steps.now (chain_of_lem plan) k c.args.table.now c.trim.new.table
     (trim_length plan.exponent plan.steps.now (chain_of_lem plan) (length c.args.table.now) k room told.answer) told.after in
-    admit_never plan.exponent plan.steps.now (chain_of_lem plan) c.exponent.result (take (k - 0) c.trim.new.table) c.in-err-admit.field-0.0 c.exponent.ensures part c.in-err-admit.ensures.exactly
+    admit_never plan.exponent plan.steps.now (chain_of_lem plan) c.exponent.result (take (k - 0) c.trim.new.table) c.in_err-admit.field-0.0 c.exponent.ensures part c.in_err-admit.ensures.exactly
 
-pub returns-in-err-place : goal.returns-in-err-place
-returns-in-err-place g c =
+pub returns-in_err-place : goal.returns-in_err-place
+returns-in_err-place g c =
     let room : length c.args.cells.now ≡ 129 = omega arith in
-    place_never c.admit.new.self.steps.now c.measure-size.result.need (length c.args.cells.now) c.in-err-place.field-0.0
-    (ap (λ z. z.need) c.measure-size.ensures.value) room c.in-err-place.ensures.answer
+    place_never c.admit.new.self.steps.now c.measure-size.result.need (length c.args.cells.now) c.in_err-place.field-0.0
+    (ap (λ z. z.need) c.measure-size.ensures.value) room c.in_err-place.ensures.answer
 
 pub rehearse-requires : goal.rehearse-requires
 rehearse-requires g c =
     let short : List Step = c.admit.new.self.steps.now in
-    start_is short c.place.new.places (drop (length short + 1) c.args.cells.now) c.in-ok-place.ensures.after
+    start_is short c.place.new.places c.in_ok-place.ensures.after.0
 
-pub returns-in-err-rehearse : goal.returns-in-err-rehearse
-returns-in-err-rehearse g c =
+pub returns-in_err-rehearse : goal.returns-in_err-rehearse
+returns-in_err-rehearse g c =
     let plan = c.args.plan.now in
     let steps : List Step = plan.steps.now in
     let short : List Step = c.admit.new.self.steps.now in
     let room : length c.args.table.now ≡ 128 = omega arith in
-    let told = c.in-ok-length.ensures in
-    let k : ℕ = c.in-ok-length.length in
+    let told = c.in_ok-length.ensures in
+    let k : ℕ = c.in_ok-length.length in
     let is : short ≡ trimmed steps =
-    c.in-ok-admit.ensures.after.1 ∙ front_is plan.exponent steps (chain_of_lem plan) k c.args.table.now c.trim.new.table
+    c.in_ok-admit.ensures.after.1 ∙ front_is plan.exponent steps (chain_of_lem plan) k c.args.table.now c.trim.new.table
     (trim_length plan.exponent steps (chain_of_lem plan) (length c.args.table.now) k room told.answer) told.after in
     let u = c.args.unit.now in
     let m = g.U.Kind.kind u in
     let s = g.U.Unit.state u in
-    let e : Refusal = c.in-err-rehearse.field-0.0 in
-    let out = exit_is c.from-residual-in-err-rehearse.result e c.from-residual-in-err-rehearse.ensures.1 in
-    let stopped : rehearsal_fault short ≡ Some e = verdict_some (rehearsal_fault short) e c.in-err-rehearse.ensures.answer in
+    let e : Refusal = c.in_err-rehearse.field-0.0 in
+    let out = exit_is c.from_residual-in_err-rehearse.result e c.from_residual-in_err-rehearse.ensures.1 in
+    let stopped : rehearsal_fault short ≡ Some e = verdict_some (rehearsal_fault short) e c.in_err-rehearse.ensures.answer in
     record {
       answer = out ∙ not_rehearsed steps short is m s plan.exponent c.args.base e stopped;
-      after = unit_kept steps short is m s plan.exponent c.args.base c.from-residual-in-err-rehearse.result e s out refl;
+      after = unit_kept steps short is m s plan.exponent c.args.base c.from_residual-in_err-rehearse.result e s out refl;
       table = told.after;
-      cells = placed steps short is c.args.cells.now c.place.new.places c.in-ok-place.ensures.after;
-      exponents = rehearsed steps short is c.args.exponents.now c.rehearse.new.exponents c.in-err-rehearse.ensures.after;
-      refused = unchanged_err c.from-residual-in-err-rehearse.result e u u out refl;
+      cells = placed steps short is c.args.cells.now c.place.new.places c.in_ok-place.ensures.after;
+      named = placed_cells steps short is c.args.cells.now c.place.new.places c.in_ok-place.ensures.cells;
+      exponents = rehearsed steps short is c.args.exponents.now c.rehearse.new.exponents c.in_err-rehearse.ensures.after;
+      refused = unchanged_err c.from_residual-in_err-rehearse.result e u u out refl;
       same = refl;
     }
 
-pub returns-in-err-power : goal.returns-in-err-power
-returns-in-err-power g c =
+pub returns-in_err-power : goal.returns-in_err-power
+returns-in_err-power g c =
     let plan = c.args.plan.now in
     let steps : List Step = plan.steps.now in
     let short : List Step = c.admit.new.self.steps.now in
     let room : length c.args.table.now ≡ 128 = omega arith in
-    let told = c.in-ok-length.ensures in
-    let k : ℕ = c.in-ok-length.length in
+    let told = c.in_ok-length.ensures in
+    let k : ℕ = c.in_ok-length.length in
     let is : short ≡ trimmed steps =
-    c.in-ok-admit.ensures.after.1 ∙ front_is plan.exponent steps (chain_of_lem plan) k c.args.table.now c.trim.new.table
+    c.in_ok-admit.ensures.after.1 ∙ front_is plan.exponent steps (chain_of_lem plan) k c.args.table.now c.trim.new.table
     (trim_length plan.exponent steps (chain_of_lem plan) (length c.args.table.now) k room told.answer) told.after in
     let u = c.args.unit.now in
     let m = g.U.Kind.kind u in
     let s = g.U.Unit.state u in
     let x = c.args.base in
-    let e : Refusal = c.in-err-power.field-0.0 in
-    let out = exit_is c.from-residual-in-err-power.result e c.from-residual-in-err-power.ensures.1 in
-    let fine : rehearsal_fault short ≡ None = verdict_none (rehearsal_fault short) c.in-ok-rehearse.ensures.answer in
-    let stopped : run_fault m s short x ≡ Some e = answer_some (run_fault m s short x) e (power m x c.admit.new.self.exponent) c.in-err-power.ensures.answer in
+    let e : Refusal = c.in_err-power.field-0.0 in
+    let out = exit_is c.from_residual-in_err-power.result e c.from_residual-in_err-power.ensures.1 in
+    let fine : rehearsal_fault short ≡ None = verdict_none (rehearsal_fault short) c.in_ok-rehearse.ensures.answer in
+    let stopped : run_fault m s short x ≡ Some e = answer_some (run_fault m s short x) e (power m x c.admit.new.self.exponent) c.in_err-power.ensures.answer in
     record {
       answer = out ∙ not_run steps short is m s plan.exponent x e fine stopped;
-      after = unit_kept steps short is m s plan.exponent x c.from-residual-in-err-power.result e (g.U.Unit.state c.run-on-card.new.unit) out c.in-err-power.ensures.after;
+      after = unit_kept steps short is m s plan.exponent x c.from_residual-in_err-power.result e (g.U.Unit.state c.run_on_card.new.unit) out c.in_err-power.ensures.after;
       table = told.after;
-      cells = placed steps short is c.args.cells.now c.place.new.places c.in-ok-place.ensures.after;
-      exponents = rehearsed steps short is c.args.exponents.now c.rehearse.new.exponents c.in-ok-rehearse.ensures.after;
-      refused = unchanged_err c.from-residual-in-err-power.result e u c.run-on-card.new.unit out c.in-err-power.ensures.refused;
-      same = c.in-err-power.ensures.same;
+      cells = placed steps short is c.args.cells.now c.place.new.places c.in_ok-place.ensures.after;
+      named = placed_cells steps short is c.args.cells.now c.place.new.places c.in_ok-place.ensures.cells;
+      exponents = rehearsed steps short is c.args.exponents.now c.rehearse.new.exponents c.in_ok-rehearse.ensures.after;
+      refused = unchanged_err c.from_residual-in_err-power.result e u c.run_on_card.new.unit out c.in_err-power.ensures.refused;
+      same = c.in_err-power.ensures.same;
     }
 
 pub returns : goal.returns
@@ -101,9 +103,9 @@ returns g c =
     let steps : List Step = plan.steps.now in
     let short : List Step = c.admit.new.self.steps.now in
     let room : length c.args.table.now ≡ 128 = omega arith in
-    let told = c.in-ok-length.ensures in
-    let k : ℕ = c.in-ok-length.length in
-    let held = c.in-ok-admit.ensures.after in
+    let told = c.in_ok-length.ensures in
+    let k : ℕ = c.in_ok-length.length in
+    let held = c.in_ok-admit.ensures.after in
     let is : short ≡ trimmed steps =
     held.1 ∙ front_is plan.exponent steps (chain_of_lem plan) k c.args.table.now c.trim.new.table
     (trim_length plan.exponent steps (chain_of_lem plan) (length c.args.table.now) k room told.answer) told.after in
@@ -112,10 +114,10 @@ returns g c =
     let m = g.U.Kind.kind u in
     let s = g.U.Unit.state u in
     let x = c.args.base in
-    let y = c.in-ok-power.power in
-    let ran = c.in-ok-power.ensures in
-    let t = g.U.Unit.state c.run-on-card.new.unit in
-    let fine : rehearsal_fault short ≡ None = verdict_none (rehearsal_fault short) c.in-ok-rehearse.ensures.answer in
+    let y = c.in_ok-power.power in
+    let ran = c.in_ok-power.ensures in
+    let t = g.U.Unit.state c.run_on_card.new.unit in
+    let fine : rehearsal_fault short ≡ None = verdict_none (rehearsal_fault short) c.in_ok-rehearse.ensures.answer in
     let able : run_fault m s short x ≡ None = answer_none (run_fault m s short x) y (power m x c.admit.new.self.exponent) ran.answer in
     let value = answer_value (run_fault m s short x) y (power m x c.admit.new.self.exponent) ran.answer ∙ ap (power m x) size in
     let spent = ran.after.success.left in
@@ -124,8 +126,9 @@ returns g c =
       answer = fits steps short is m s plan.exponent x c.measure.result c.measure-size.result y c.allowance.result fine able c.measure.ensures.value c.measure-size.ensures.value value left;
       after = unit_run steps short is m s plan.exponent x c.admit.new.self.exponent y t size ran.after;
       table = told.after;
-      cells = placed steps short is c.args.cells.now c.place.new.places c.in-ok-place.ensures.after;
-      exponents = rehearsed steps short is c.args.exponents.now c.rehearse.new.exponents c.in-ok-rehearse.ensures.after;
+      cells = placed steps short is c.args.cells.now c.place.new.places c.in_ok-place.ensures.after;
+      named = placed_cells steps short is c.args.cells.now c.place.new.places c.in_ok-place.ensures.cells;
+      exponents = rehearsed steps short is c.args.exponents.now c.rehearse.new.exponents c.in_ok-rehearse.ensures.after;
       refused = tt;
       same = ran.same;
     }

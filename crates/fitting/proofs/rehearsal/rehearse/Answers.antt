@@ -16,23 +16,23 @@ use Rattle.refusals.proofs.Answered.{answer_none, answer_some, settle_none}
 use Rattle.fitting.proofs.Rehearsed.{one_count, outset, outset_is, fault_is, few, sums_small, front_is}
 use Rattle.fitting.proofs.rehearsal.rehearse.Goals as goal
 
-pub returns-in-err-run : goal.returns-in-err-run
-returns-in-err-run c =
+pub returns-in_err-run : goal.returns-in_err-run
+returns-in_err-run c =
     let plan = c.args.plan.now in
     let b = c.new-sheet.result in
     let s : State Count = sheeted b.records b.len (bank b.below.places b.below.left) in
     let begun : s ≡ outset = outset_is b.records b.len (bank b.below.places b.below.left) c.new-sheet.ensures.len (ap (λ z. bank z.places z.left) c.new-sheet.ensures.below ∙ c.new.ensures.empty) in
-    let e : Refusal = c.in-err-run.field-0.0 in
-    let f : run_fault counting s plan.steps.now one_count ≡ Some e = answer_some (run_fault counting s plan.steps.now one_count) e _ c.in-err-run.ensures.answer in
+    let e : Refusal = c.in_err-run.field-0.0 in
+    let f : run_fault counting s plan.steps.now one_count ≡ Some e = answer_some (run_fault counting s plan.steps.now one_count) e _ c.in_err-run.ensures.answer in
     let stopped : rehearsal_fault plan.steps.now ≡ Some e = sym (fault_is plan.exponent plan.steps.now (chain_of_lem plan) s begun) ∙ f in
-    let p = err_from_is_err_and c.from-residual.result c.from-residual.ensures.1 in
+    let p = err_from_is_err_and c.from_residual.result c.from_residual.ensures.1 in
     rw (p.1, p.2) (record {
       answer = sym (ap verdict stopped);
       after = settle_is (rehearsal_fault plan.steps.now) e c.args.exponents.now _ c.args.exponents.now refl stopped;
     })
 
-pub work-records-requires : goal.work-records-requires
-work-records-requires c =
+pub work_records-requires : goal.work_records-requires
+work_records-requires c =
     let plan = c.args.plan.now in
     let b = c.new-sheet.result in
     let s : State Count = sheeted b.records b.len (bank b.below.places b.below.left) in
@@ -40,10 +40,10 @@ work-records-requires c =
     let d = c.run.new.unit in
     let t : State Count = sheeted d.records d.len (bank d.below.places d.below.left) in
     let within : d.len ≤ length d.records = omega (arith, d.within, d.full) in
-    let done = c.in-ok-run.ensures.after in
+    let done = c.in_ok-run.ensures.after in
     record {
-      few = few plan.exponent plan.steps.now (chain_of_lem plan) s begun c.in-ok-run.field-0.value t done d.records d.len refl within;
-      small = sums_small plan.exponent plan.steps.now (chain_of_lem plan) s begun c.in-ok-run.field-0.value t done d.records d.len refl within c.args.start c.requires;
+      few = few plan.exponent plan.steps.now (chain_of_lem plan) s begun c.in_ok-run.field-0.value t done d.records d.len refl within;
+      small = sums_small plan.exponent plan.steps.now (chain_of_lem plan) s begun c.in_ok-run.field-0.value t done d.records d.len refl within c.args.start c.requires;
     }
 
 pub returns : goal.returns
@@ -55,11 +55,11 @@ returns c =
     let d = c.run.new.unit in
     let t : State Count = sheeted d.records d.len (bank d.below.places d.below.left) in
     let within : d.len ≤ length d.records = omega (arith, d.within, d.full) in
-    let f : run_fault counting s plan.steps.now one_count ≡ None = answer_none (run_fault counting s plan.steps.now one_count) c.in-ok-run.field-0 _ c.in-ok-run.ensures.answer in
+    let f : run_fault counting s plan.steps.now one_count ≡ None = answer_none (run_fault counting s plan.steps.now one_count) c.in_ok-run.field-0 _ c.in_ok-run.ensures.answer in
     let fine : rehearsal_fault plan.steps.now ≡ None = sym (fault_is plan.exponent plan.steps.now (chain_of_lem plan) s begun) ∙ f in
     record {
       answer = sym (ap verdict fine);
-      after = c.work-records.ensures.after
-          ∙ front_is plan.exponent plan.steps.now (chain_of_lem plan) s begun c.in-ok-run.field-0.value t c.in-ok-run.ensures.after d.records d.len refl within c.args.start c.requires c.args.exponents.now
+      after = c.work_records.ensures.after
+          ∙ front_is plan.exponent plan.steps.now (chain_of_lem plan) s begun c.in_ok-run.field-0.value t c.in_ok-run.ensures.after d.records d.len refl within c.args.start c.requires c.args.exponents.now
           ∙ settle_none (rehearsal_fault plan.steps.now) c.args.exponents.now _ fine;
     }
