@@ -13,8 +13,7 @@ use Rattle.kinds.specs.Kinds.{Meaning}
 use Rattle.kinds.specs.Powers.{power}
 use Rattle.units.specs.Units.{State, load_fault, loaded}
 use Rattle.run_laws.specs.Runs.{run_fault}
-use Rattle.run_laws.specs.Law.{Event, asked, Law}
-use Rattle.run_laws.proofs.Effects.{Effect, InTurn}
+use Rattle.run_laws.specs.Effects.{Event, asked, Effect, InTurn, Law}
 use Rattle.run_laws.proofs.Effected.{accepted_effect, refused_effect, plain_effect, still_effect}
 use Rattle.run_laws.proofs.Lawful.{lawful}
 use Rattle.runs.specs.declared.raised.Raised.{Raised}
@@ -27,7 +26,7 @@ use Rattle.calls.specs.declared.act.Act.{Act}
 use Rattle.calls.specs.declared.act.Act.TheVariants.{Load, Read, Run, Job}
 use Rattle.calls.specs.declared.act.Answer.{Answer}
 use Rattle.jobs.specs.Jobs.{staged, job_answer, if_admitted, job_plan, Jobbed}
-use Rattle.calls.specs.Lists.{Setting, MadeBy, Made, Turn, turns, Performed, asks, handed_out, gives, event_of, events, list_answer}
+use Rattle.calls.specs.Lists.{Bench, MadeBy, Made, Turn, turns, Performed, asks, handed_out, gives, event_of, events, list_answer}
 
 -- the answer of a list of calls
 pub list_short : (calls room : ℕ) → room < calls → Err (TableShort calls) ≡ list_answer calls room
@@ -48,12 +47,12 @@ module _ {V : Type 0} where
       → turns (take (i + 1) cs) (set ys i a) ≡ turns (take i cs) ys ++ (record { call = c; answer = a } ∷ [])
   turns_more cs ys i c a h k e = rw add-one (turns_suc cs ys i c a h k e)
 
-  performed_on : (m : Meaning V) (room : ℕ) (b c d : Setting V) (es : List (Turn V)) (e : Turn V) → Performed m room b es c → Made m room e.call c e.answer d → Performed m room b (es ++ (e ∷ [])) d
-  performed_on m room b c d [] e p q = (d, subst (λ (z : Setting V). Made m room e.call z e.answer d) p q, refl)
+  performed_on : (m : Meaning V) (room : ℕ) (b c d : Bench V) (es : List (Turn V)) (e : Turn V) → Performed m room b es c → Made m room e.call c e.answer d → Performed m room b (es ++ (e ∷ [])) d
+  performed_on m room b c d [] e p q = (d, subst (λ (z : Bench V). Made m room e.call z e.answer d) p q, refl)
   performed_on m room b c d (x ∷ es) e (n, p, r) q = (n, p, performed_on m room n c d es e r q)
 
   -- one more call, of the kind k that is still m, with a table whose length is still room
-  pub performed_more : (m k : Meaning V) (room long : ℕ) (b c d : Setting V) (cs : List (Call V)) (ys : List (Answer V)) (i : ℕ) (x : Call V) (a : Answer V)
+  pub performed_more : (m k : Meaning V) (room long : ℕ) (b c d : Bench V) (cs : List (Call V)) (ys : List (Answer V)) (i : ℕ) (x : Call V) (a : Answer V)
       → k ≡ m → long ≡ room → i < length cs → i < length ys → x ≡ get_or cs i x
       → Performed m room b (turns (take i cs) ys) c → Made k long x c a d → Performed m room b (turns (take (i + 1) cs) (set ys i a)) d
   performed_more m k room long b c d cs ys i x a alike size h l is so_far more =
@@ -104,7 +103,7 @@ module _ {V : Type 0} where
   job_effect m s t n x (Err e) q = still_effect m s t q
   job_effect m s t n x (Ok steps) q = admitted_effect m s t n x steps (admission n steps) refl q
 
-  made_effect : (m : Meaning V) (room : ℕ) (p : Plan) (act : Act V) (b : Setting V) (a : Answer V) (d : Setting V) → MadeBy m room p act b a d
+  made_effect : (m : Meaning V) (room : ℕ) (p : Plan) (act : Act V) (b : Bench V) (a : Answer V) (d : Bench V) → MadeBy m room p act b a d
       → Effect m b.unit (record { run = asks m room p act; given = gives a }) d.unit
   made_effect m room p (Load i v) b a d (e, q, _) =
       subst (λ (z : Answer V). Effect m b.unit (record { run = None; given = gives z }) d.unit) (sym e) (load_effect m b.unit d.unit i v (load_fault m b.unit i v) q)
@@ -117,13 +116,13 @@ module _ {V : Type 0} where
       subst (λ (z : Answer V). Effect m b.unit (record { run = asks m room p (Job text n x); given = gives z }) d.unit) (sym e)
       (job_effect m b.unit d.unit n x (read_sheet text.now room) q)
 
-  effects : (m : Meaning V) (room : ℕ) (b : Setting V) (es : List (Turn V)) (d : Setting V) → Performed m room b es d → InTurn m b.unit (map (event_of m room) es) d.unit
-  effects m room b [] d q = ap (λ (z : Setting V). z.unit) q
+  effects : (m : Meaning V) (room : ℕ) (b : Bench V) (es : List (Turn V)) (d : Bench V) → Performed m room b es d → InTurn m b.unit (map (event_of m room) es) d.unit
+  effects m room b [] d q = ap (λ (z : Bench V). z.unit) q
   effects m room b (e ∷ es) d (c, p, q) = (c.unit, made_effect m room e.call.plan e.call.act b e.answer c p, effects m room c es d q)
 
-  pub law_of : (m : Meaning V) (room : ℕ) (b : Setting V) (es : List (Turn V)) (d : Setting V) → Performed m room b es d → Law m b.unit (map (event_of m room) es) d.unit
+  pub law_of : (m : Meaning V) (room : ℕ) (b : Bench V) (es : List (Turn V)) (d : Bench V) → Performed m room b es d → Law m b.unit (map (event_of m room) es) d.unit
   law_of m room b es d done = lawful m b.unit d.unit (map (event_of m room) es) (effects m room b es d done)
 
   -- the same of one call alone
-  pub law_of_one : (m : Meaning V) (room : ℕ) (b : Setting V) (x : Call V) (a : Answer V) (d : Setting V) → Made m room x b a d → Law m b.unit (events m room (x ∷ []) (a ∷ [])) d.unit
+  pub law_of_one : (m : Meaning V) (room : ℕ) (b : Bench V) (x : Call V) (a : Answer V) (d : Bench V) → Made m room x b a d → Law m b.unit (events m room (x ∷ []) (a ∷ [])) d.unit
   law_of_one m room b x a d done = law_of m room b (record { call = x; answer = a } ∷ []) d (d, done, refl)

@@ -9,7 +9,7 @@ use Rattle.plans.specs.declared.plan.Plan.{Plan}
 use Rattle.sheets.specs.Reading.{read_sheet, filled}
 use Rattle.kinds.specs.Kinds.{Meaning}
 use Rattle.units.specs.Units.{State, load_answer, load_after, reading}
-use Rattle.run_laws.specs.Law.{Event, Asked, asked}
+use Rattle.run_laws.specs.Effects.{Event, Asked, asked}
 use Rattle.runs.specs.declared.raised.Raised.{Raised}
 use Rattle.runs.specs.Answers.{run_answer, Ran}
 use Rattle.calls.specs.declared.call.Call.{Call}
@@ -20,16 +20,16 @@ use Rattle.calls.specs.declared.act.Answer.TheVariants.{Loaded, Got, Power, Carr
 use Rattle.jobs.specs.Jobs.{job_answer, job_plan, Jobbed}
 
 -- what calls work on: the unit, by its meaning, and the lent step table
-pub record Setting (V : Type 0) : Type 0 where
+pub record Bench (V : Type 0) : Type 0 where
   pub unit : State V
   pub table : List Step
 
 -- the unit in the state s, and the table
-abbrev pub setting : {V : Type 0} → State V → List Step → Setting V
-setting s table = record { unit = s; table = table }
+abbrev pub bench : {V : Type 0} → State V → List Step → Bench V
+bench s table = record { unit = s; table = table }
 
 -- what one call answers and leaves, where the table has so many places
-abbrev pub MadeBy : {V : Type 0} → Meaning V → ℕ → Plan → Act V → Setting V → Answer V → Setting V → Type 0
+abbrev pub MadeBy : {V : Type 0} → Meaning V → ℕ → Plan → Act V → Bench V → Answer V → Bench V → Type 0
 MadeBy m room p (Load i v) b a d =
     (a ≡ Loaded (load_answer m b.unit i v)) × (d.unit ≡ load_after m b.unit i v) × (d.table ≡ b.table)
 MadeBy m room p (Read i) b a d =
@@ -44,7 +44,7 @@ MadeBy m room p (Job text n x) b a d =
     × (d.table ≡ filled (read_sheet text.now room) b.table)
 
 -- what a call answers and leaves
-abbrev pub Made : {V : Type 0} → Meaning V → ℕ → Call V → Setting V → Answer V → Setting V → Type 0
+abbrev pub Made : {V : Type 0} → Meaning V → ℕ → Call V → Bench V → Answer V → Bench V → Type 0
 Made m room c b a d = MadeBy m room c.plan c.act b a d
 
 -- a call with this answer left the thing itself as it was if it was refused, and every reading did
@@ -66,9 +66,9 @@ turns (c ∷ cs) [] = []
 turns (c ∷ cs) (a ∷ ys) = record { call = c; answer = a } ∷ turns cs ys
 
 -- the calls were made in turn, each on what the one before had left
-abbrev pub Performed : {V : Type 0} → Meaning V → ℕ → Setting V → List (Turn V) → Setting V → Type 0
+abbrev pub Performed : {V : Type 0} → Meaning V → ℕ → Bench V → List (Turn V) → Bench V → Type 0
 Performed m room b [] d = d ≡ b
-Performed {V} m room b (e ∷ es) d = (c : Setting V) × Made m room e.call b e.answer c × Performed m room c es d
+Performed {V} m room b (e ∷ es) d = (c : Bench V) × Made m room e.call b e.answer c × Performed m room c es d
 
 -- the run that a call asks for: a run, that of its plan; a job, that of its sheet's steps, if they are read and admitted; the others none
 abbrev pub asks : {V : Type 0} → Meaning V → ℕ → Plan → Act V → Option (Asked V)

@@ -1,8 +1,8 @@
 //! Calls on one unit: one, and a list of them made in order.
 ghost use Rattle.std.specs.Prelude.{◌≡◌, [], ◌∷◌, length, drop, OnOk};
-ghost use Rattle.run_laws.specs.Law.{Law};
+ghost use Rattle.run_laws.specs.Effects.{Law};
 ghost use Rattle.refusals.specs.Faults.{Unchanged};
-ghost use Rattle.calls.specs.Lists.{setting, Made, Kept, turns, Performed, events, list_answer};
+ghost use Rattle.calls.specs.Lists.{bench, Made, Kept, turns, Performed, events, list_answer};
 
 use crate::act::{Act, Answer};
 use crate::call::Call;
@@ -19,7 +19,7 @@ pub fn perform_call<U: Unit>(
     call: &Call<'_, U::Value>,
     table: &mut [Step],
 ) -> Answer<U::Value>
-    ensures made { Made (U.Kind.kind unit.old) (length table.old) call.now (setting (U.Unit.state unit.old) table.old) result (setting (U.Unit.state unit.new) table.new) }
+    ensures made { Made (U.Kind.kind unit.old) (length table.old) call.now (bench (U.Unit.state unit.old) table.old) result (bench (U.Unit.state unit.new) table.new) }
     ensures law { Law (U.Kind.kind unit.old) (U.Unit.state unit.old) (events (U.Kind.kind unit.old) (length table.old) (call.now ∷ []) (result ∷ [])) (U.Unit.state unit.new) }
     ensures refused { Kept result unit.old unit.new }
     ensures same { U.Kind.kind unit.new ≡ U.Kind.kind unit.old }
@@ -41,7 +41,7 @@ pub fn perform<U: Unit>(
     table: &mut [Step],
 ) -> Result<(), Refusal>
     ensures answer { result ≡ list_answer (length calls.now) (length answers.old) }
-    ensures each { OnOk result (Performed (U.Kind.kind unit.old) (length table.old) (setting (U.Unit.state unit.old) table.old) (turns calls.now answers.new) (setting (U.Unit.state unit.new) table.new)) }
+    ensures each { OnOk result (Performed (U.Kind.kind unit.old) (length table.old) (bench (U.Unit.state unit.old) table.old) (turns calls.now answers.new) (bench (U.Unit.state unit.new) table.new)) }
     ensures law { OnOk result (Law (U.Kind.kind unit.old) (U.Unit.state unit.old) (events (U.Kind.kind unit.old) (length table.old) calls.now answers.new) (U.Unit.state unit.new)) }
     ensures rest { drop (length calls.now) answers.new ≡ drop (length calls.now) answers.old }
     ensures refused { Unchanged result unit.old unit.new × Unchanged result answers.old answers.new × Unchanged result table.old table.new }

@@ -1,8 +1,7 @@
 //! The fitting on a card of each kind: a bank under a window.
 use crate::request::{CardKind, Request};
 use banks::{CountsBank, RegisterBank, ResiduesBank};
-use fitting::{Fitted, Tables, fit};
-use jobs::JobRefusal;
+use fitting::{FitRefusal, Fitted, Tables, fit};
 use kinds::{Count, Residues};
 use polynomials::{Register, Word};
 use refusals::Refusal;
@@ -14,13 +13,13 @@ pub(crate) enum Outcome {
     /// The plan was run; the power is a plain number.
     Done(Fitted<u64>),
     /// The sheet or the plan was refused.
-    Refused(JobRefusal),
+    Refused(FitRefusal),
     /// There is no such card.
     NoCard(Refusal),
 }
 
 // What was found, with the power as a plain number.
-fn reported<V: Copy>(answer: Result<Fitted<V>, JobRefusal>, power: u64) -> Outcome {
+fn reported<V: Copy>(answer: Result<Fitted<V>, FitRefusal>, power: u64) -> Outcome {
     match answer {
         Ok(found) => Outcome::Done(Fitted {
             plan: found.plan,

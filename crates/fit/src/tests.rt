@@ -31,9 +31,8 @@ fn gives(request: &Request, power: u64) -> bool {
 // Whether the text is refused so at the stage.
 fn refused(request: &Request, text: &[u8], stage: Stage, number: u8, place: u64) -> bool {
     match fit_to_card(request, text, &mut Tables::new()) {
-        Outcome::Refused(refusal) => refusal.stage() == stage
-            && refusal.number() == number
-            && refusal.place() == place,
+        Outcome::Refused(refusal) => refusal.stage == stage
+            && refusal.refusal.number_and_place() == (number, place),
         _ => false,
     }
 }

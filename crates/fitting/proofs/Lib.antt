@@ -1,3 +1,4 @@
 pub mod Working
 pub mod Rehearsed
 pub mod Trims
+pub mod Stages

@@ -12,7 +12,6 @@ use Rattle.plans.specs.declared.step.Step.{Step}
 use Rattle.plans.specs.Chain.{Chain, value_at, step_at}
 use Rattle.plans.proofs.Values.{value_suc}
 use Rattle.placing.specs.Placing.{need}
-use Rattle.placing.specs.Supply.{supplied_cells}
 use Rattle.kinds.specs.declared.counts.Count.{Count}
 use Rattle.kinds.specs.Counting.{counting}
 use Rattle.units.specs.declared.record.Record.{Record}
@@ -74,10 +73,10 @@ module _ (n : ℕ) (steps : List Step) (chain : Chain n steps) where
     pub sums_are : (start : ℕ) → start ≡ 0 → sums (one_in 32 start) (take len rows) ≡ map (λ x. x.value) steps
     sums_are start h =
         let size : length s.cells ≡ 32 = ap (λ (z : State Count). length z.cells) begun in
-        let first : start ≡ cell_of (supplied_cells steps) 0 = h ∙ sym done.supplied.start in
+        let first : start ≡ cell_of done.places 0 = h ∙ sym done.supplied.start in
         ap (λ (z : List Record). sums (one_in 32 start) z) rows_are
         ∙ ap (λ (z : ℕ). sums (one_in 32 z) done.traces.added) first
-        ∙ ap (λ (z : ℕ). sums (one_in z (cell_of (supplied_cells steps) 0)) done.traces.added) (sym size)
+        ∙ ap (λ (z : ℕ). sums (one_in z (cell_of done.places 0)) done.traces.added) (sym size)
         ∙ done.traces.values
 
     pub len_is : len ≡ length steps

@@ -8,10 +8,10 @@ use Rattle.refusals.specs.Faults.{first, unless, answer, verdict}
 use Rattle.refusals.proofs.Firsts.{unless_none}
 use Rattle.plans.specs.declared.step.Step.{Step}
 use Rattle.plans.specs.Chain.{Chain}
-use Rattle.placing.specs.Placing.{need}
+use Rattle.placing.specs.Placing.{need, Supplied}
 use Rattle.placing.specs.Supply.{supplied_cells}
 use Rattle.placing.specs.Answer.{place_fault}
-use Rattle.placing.proofs.Supply.{supplied_cells_lem, front_supplied}
+use Rattle.placing.proofs.Supply.{supplied_cells_lem}
 use Rattle.trimming.specs.Trim.{trimmed, trim_answer}
 use Rattle.trimming.proofs.Again.{trimmed_chain}
 use Rattle.kinds.specs.Kinds.{Meaning}
@@ -20,7 +20,7 @@ use Rattle.units.specs.Units.{State}
 use Rattle.run_laws.specs.Runs.{run_fault}
 use Rattle.fitting.specs.declared.fitted.Size.{Size}
 use Rattle.fitting.specs.declared.fitted.Fitted.{Fitted}
-use Rattle.fitting.specs.Fitting.{size_of, rehearsal_fault, fit_fault, found, fit_answer, PlacedIn, rehearsed_in, FitsUnit, Lawful}
+use Rattle.fitting.specs.Fitting.{size_of, rehearsal_fault, fit_fault, found, fit_answer, PlacedIn, PlacedCells, rehearsed_in, FitsUnit, Lawful}
 use Rattle.refusals.proofs.Answered.{not_both, answer_ok, answer_err}
 
 module _ (n : ℕ) (s : List Step) (chain : Chain n s) where
@@ -57,15 +57,16 @@ place_never p k room e h r told =
     let fine : place_fault p k room ≡ None = ap (λ (z : Option Refusal). first z (unless (leb (need p) k) (NeedAbove (need p)))) (unless_none (leb 129 room) (TableShort 129) one) ∙ unless_none (leb (need p) k) (NeedAbove (need p)) two in
     not_both (need p) e (sym (told ∙ ap (λ (z : Option Refusal). answer z (need p)) fine))
 
-pub start_is : (p : List Step) (cells rest : List ℕ) → cells ≡ supplied_cells p ++ rest → get_or cells 0 0 ≡ 0
-start_is p cells rest h =
-    let lt : 0 < length p + 1 = omega arith in
-    sym (get_or-take (length p + 1) cells 0 0 lt) ∙ ap (λ (z : List ℕ). get_or z 0 0) (front_supplied p cells rest h) ∙ (supplied_cells_lem p).start
+pub start_is : (p : List Step) (cells : List ℕ) → Supplied p (take (length p + 1) cells) → get_or cells 0 0 ≡ 0
+start_is p cells h = let lt : 0 < length p + 1 = omega arith in sym (get_or-take (length p + 1) cells 0 0 lt) ∙ h.start
 
 -- what is said of the trimmed plan p of the steps s
 module _ (s p : List Step) (is : p ≡ trimmed s) where
-  pub placed : (was new : List ℕ) → new ≡ supplied_cells p ++ drop (length p + 1) was → PlacedIn s was new
-  placed was new h = (h ∙ ap (λ (z : List Step). supplied_cells z ++ drop (length z + 1) was) is, supplied_cells_lem (trimmed s))
+  pub placed : (was new : List ℕ) → Supplied p (take (length p + 1) new) × (drop (length p + 1) new ≡ drop (length p + 1) was) → PlacedIn s was new
+  placed was new h = subst (λ (z : List Step). Supplied z (take (length z + 1) new) × (drop (length z + 1) new ≡ drop (length z + 1) was)) is h
+
+  pub placed_cells : (was new : List ℕ) → new ≡ supplied_cells p ++ drop (length p + 1) was → PlacedCells s was new
+  placed_cells was new h = (h ∙ ap (λ (z : List Step). supplied_cells z ++ drop (length z + 1) was) is, supplied_cells_lem (trimmed s))
 
   pub rehearsed : (was new : List ℕ) → new ≡ rehearsed_in p was → new ≡ rehearsed_in (trimmed s) was
   rehearsed was new h = h ∙ ap (λ (z : List Step). rehearsed_in z was) is

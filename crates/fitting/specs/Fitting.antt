@@ -1,5 +1,5 @@
 -- A plan fitted to a card: what is answered, and what is left on the card and in the lent tables. Assumes nothing.
-use Rattle.std.specs.Prelude.{◌≡◌, ℕ, ◌+◌, ◌-◌, cond, List, [], ◌∷◌, ◌++◌, map, length, drop, Some, None, Ok, Err, Option, Result, nat_le}
+use Rattle.std.specs.Prelude.{◌≡◌, ℕ, ◌+◌, ◌-◌, cond, List, [], ◌∷◌, ◌++◌, map, length, take, drop, Some, None, Ok, Err, Option, Result, nat_le}
 use Rattle.refusals.specs.declared.refusal.Refusal.{Refusal}
 use Rattle.refusals.specs.declared.refusal.Refusal.TheVariants.{NeedAbove}
 use Rattle.refusals.specs.Faults.{first, unless, answer, settle}
@@ -11,7 +11,7 @@ use Rattle.kinds.specs.Kinds.{Meaning}
 use Rattle.kinds.specs.Powers.{power}
 use Rattle.units.specs.Units.{State}
 use Rattle.run_laws.specs.Runs.{run_fault, Success}
-use Rattle.run_laws.specs.Law.{Event, asked, Law}
+use Rattle.run_laws.specs.Effects.{Event, asked, Law}
 use Rattle.fitting.specs.declared.fitted.Size.{Size}
 use Rattle.fitting.specs.declared.fitted.Fitted.{Fitted}
 
@@ -63,9 +63,15 @@ FitsUnit m s n steps x (Ok y) t = Lawful m s n (trimmed steps) x y.power t
 abbrev pub trimmed_in : List Step → List Step → List Step
 trimmed_in steps was = trimmed steps ++ drop (length (trimmed steps)) was
 
--- the table of cells after: the supplied cells of the trimmed plan stand in front, and the rest is as it was
+-- the table of cells after: the supplied placing of the trimmed plan stands in front, and the rest is as it was
 abbrev pub PlacedIn : List Step → List ℕ → List ℕ → Type 0
 PlacedIn steps was new =
+    Supplied (trimmed steps) (take (length (trimmed steps) + 1) new)
+    × (drop (length (trimmed steps) + 1) new ≡ drop (length (trimmed steps) + 1) was)
+
+-- the same with the cells by name: the supplied cells of the trimmed plan stand in front
+abbrev pub PlacedCells : List Step → List ℕ → List ℕ → Type 0
+PlacedCells steps was new =
     (new ≡ supplied_cells (trimmed steps) ++ drop (length (trimmed steps) + 1) was) × Supplied (trimmed steps) (supplied_cells (trimmed steps))
 
 -- the table of exponents after a rehearsal of a plan: a_1 to a_r stand in front and the rest is as it was, or it is all as it was where that is refused

@@ -1,16 +1,16 @@
 //! A plan, and the plan of a sheet, fitted to a card.
 ghost use Rattle.std.specs.Prelude.{◌≡◌};
-ghost use Rattle.fitting.specs.Fitting.{fit_answer, FitsUnit, trimmed_in, PlacedIn, exponents_in};
+ghost use Rattle.fitting.specs.Fitting.{fit_answer, FitsUnit, trimmed_in, PlacedIn, PlacedCells, exponents_in};
 ghost use Rattle.refusals.specs.Faults.{Unchanged};
 ghost use Rattle.sheets.specs.Reading.{read_sheet};
-ghost use Rattle.jobs.specs.Jobs.{job_plan};
-ghost use Rattle.fitting.specs.Sheets.{sheet_answer, FitsSheet, TablesAfter};
+ghost use Rattle.fitting.specs.Sheets.{sheet_answer, sheet_plan, FitsSheet, TablesAfter, CellsOf};
 
 use crate::card::run_on_card;
+use crate::fit_refusal::{FitRefusal, at_stage};
 use crate::fitted::{Fitted, measure};
 use crate::rehearsal::rehearse;
 use crate::tables::Tables;
-use jobs::{JobRefusal, Stage, at_stage};
+use jobs::Stage;
 use kinds::Kind;
 use placing::place::place;
 use plans::{MOST_STEPS, MOST_VALUES, Plan, Step};
@@ -33,6 +33,7 @@ pub fn fit_plan<U: Unit>(
     ensures after { FitsUnit (U.Kind.kind unit.old) (U.Unit.state unit.old) plan.now.exponent plan.now.steps.now base result (U.Unit.state unit.new) }
     ensures table { table.new ≡ trimmed_in plan.now.steps.now table.old }
     ensures cells { PlacedIn plan.now.steps.now cells.old cells.new }
+    ensures named { PlacedCells plan.now.steps.now cells.old cells.new }
     ensures exponents { exponents.new ≡ exponents_in plan.now.steps.now exponents.old }
     ensures refused { Unchanged result unit.old unit.new }
     ensures same { U.Kind.kind unit.new ≡ U.Kind.kind unit.old }
@@ -59,10 +60,11 @@ pub fn fit<U: Unit>(
     n: u64,
     base: U::Value,
     tables: &mut Tables,
-) -> Result<Fitted<U::Value>, JobRefusal>
+) -> Result<Fitted<U::Value>, FitRefusal>
     ensures answer { result ≡ sheet_answer (U.Kind.kind unit.old) (U.Unit.state unit.old) (read_sheet text.now 128) n base }
-    ensures after { FitsSheet (U.Kind.kind unit.old) (U.Unit.state unit.old) n base (job_plan (read_sheet text.now 128) n) (U.Unit.state unit.new) }
+    ensures after { FitsSheet (U.Kind.kind unit.old) (U.Unit.state unit.old) n base (sheet_plan (read_sheet text.now 128) n) (U.Unit.state unit.new) }
     ensures tables { TablesAfter (read_sheet text.now 128) n tables.old tables.new }
+    ensures named { CellsOf (sheet_plan (read_sheet text.now 128) n) tables.old tables.new }
     ensures refused { Unchanged result unit.old unit.new }
     ensures same { U.Kind.kind unit.new ≡ U.Kind.kind unit.old }
 {

@@ -1,12 +1,13 @@
 //! Refusals in words.
-ghost use Rattle.std.specs.Prelude.{◌≡◌};
+ghost use Rattle.std.specs.Prelude.{◌≡◌, ◌<◌, length};
 ghost use Rattle.fitting.specs.Words.{words};
 
 use refusals::Refusal;
 
 /// What is refused, in words; the place is the refusal's own.
 pub fn describe(refusal: Refusal) -> &'static str
-    ensures said { result.now ≡ words refusal }
+    ensures said { 0 < length result.now }
+    ensures told { result.now ≡ words refusal }
 {
     match refusal {
         Refusal::Exponent => "the exponent is outside 1 to 2^63 - 1",

@@ -3,7 +3,7 @@ ghost use Rattle.std.specs.Prelude.{◌≡◌, length};
 ghost use Rattle.refusals.specs.Faults.{answer as answered};
 ghost use Rattle.placing.specs.Placing.{need, FitsExactly, Supplied};
 ghost use Rattle.placing.specs.Supply.{supplied_cells};
-ghost use Rattle.placing.specs.Answer.{place_fault, Leaves};
+ghost use Rattle.placing.specs.Answer.{place_fault, Leaves, LeavesCells};
 
 use crate::cells::arrange;
 use plans::{MOST_VALUES, Plan};
@@ -21,6 +21,7 @@ pub fn cells_needed(plan: &Plan<'_>) -> u8
 pub fn place(plan: &Plan<'_>, cells: u8, places: &mut [u8]) -> Result<u8, Refusal>
     ensures answer { result ≡ answered (place_fault plan.now.steps.now cells (length places.old)) (need plan.now.steps.now) }
     ensures after { Leaves plan.now.steps.now places.old places.new result }
+    ensures cells { LeavesCells plan.now.steps.now places.old places.new result }
     ensures supplied { Supplied plan.now.steps.now (supplied_cells plan.now.steps.now) }
     ensures exactly { FitsExactly plan.now.steps.now }
 {

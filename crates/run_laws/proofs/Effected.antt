@@ -5,14 +5,12 @@ use Rattle.refusals.specs.declared.refusal.Refusal.{Refusal}
 use Rattle.refusals.specs.Faults.{first, unless}
 use Rattle.plans.specs.declared.step.Step.{Step}
 use Rattle.placing.specs.Placing.{need}
-use Rattle.placing.specs.Supply.{supplied_cells}
 use Rattle.placing.proofs.Fits.{fits_exactly}
 use Rattle.kinds.specs.Kinds.{Meaning}
 use Rattle.kinds.specs.Powers.{power}
 use Rattle.units.specs.Units.{State, SameShape, loaded}
 use Rattle.run_laws.specs.Runs.{run_fault, cell_of, after_steps, after_run, Success}
-use Rattle.run_laws.specs.Law.{Asked, Event, if_native, asked, Cause, Powers}
-use Rattle.run_laws.proofs.Effects.{Effect}
+use Rattle.run_laws.specs.Effects.{Asked, Event, if_native, asked, Cause, Powers, Effect}
 use Rattle.run_laws.proofs.Passed.{Passed, passed}
 
 nothing_is_something : {A X : Type 0} (a : A) → ◌≡◌ {A = Option A} None (Some a) → X
@@ -73,7 +71,7 @@ module _ {V : Type 0} (m : Meaning V) (s : State V) (n : ℕ) (steps : List Step
             );
         silent = λ none. nothing_is_something (asked m n steps x) (sym none);
         shape = (
-          ap (λ (z : State V). length z.cells) done.after ∙ run_cells m s (supplied_cells steps) steps x,
+          ap (λ (z : State V). length z.cells) done.after ∙ run_cells m s done.places steps x,
           ap is_some done.traces.kept ∙ mapped_kept s.log (λ l. l ++ done.traces.added),
         );
       }

@@ -3,8 +3,7 @@ use Rattle.std.proofs.Common.{◌≡◌, ℕ, ◌+◌, ◌-◌, ◌<◌, List, [
 use Rattle.placing.specs.Placing.{Exactly}
 use Rattle.kinds.specs.Kinds.{Meaning}
 use Rattle.units.specs.Units.{State, SameShape}
-use Rattle.run_laws.specs.Law.{Asked, Event, cost_of, spent, Cause, Split, Law}
-use Rattle.run_laws.proofs.Effects.{Effect, InTurn}
+use Rattle.run_laws.specs.Effects.{Asked, Event, cost_of, spent, Cause, Split, Effect, InTurn, Law}
 
 module _ {V : Type 0} (m : Meaning V) where
   -- what a list of calls keeps, and what it costs

@@ -5,7 +5,7 @@ use Rattle.refusals.specs.Faults.{verdict, settle}
 use Rattle.refusals.proofs.Firsts.{first_none, unless_true}
 use Rattle.plans.specs.declared.step.Step.{Step}
 use Rattle.plans.specs.Chain.{Chain}
-use Rattle.placing.specs.Placing.{need, Placing}
+use Rattle.placing.specs.Placing.{need, Placing, Supplied}
 use Rattle.placing.specs.Supply.{supplied_cells}
 use Rattle.placing.proofs.Supply.{supplied_cells_lem}
 use Rattle.placing.proofs.Fits.{placing_within}
@@ -94,11 +94,12 @@ module _ {V : Type 0} (m : Meaning V) (s : State V) (steps : List Step) (x : V) 
     success laws given t value after =
         let sits = sits_end m (loaded s (cell_of places 0) x) n steps places x laws ready in
         record {
-          supplied = supplied_cells_lem steps;
+          places = places;
+          supplied = subst (Supplied steps) (sym named) (supplied_cells_lem steps);
+          named = named;
           fits = (passed fine).fits;
           value = value;
           left = sym (ap (λ (z : State V). z.left + length steps) after ∙ sits.left);
-          after = after ∙ ap (λ (z : List ℕ). after_run m s z steps x) named;
-          traces = subst (λ (z : List ℕ). Traces (length s.cells) (cell_of z 0) steps s.log t.log) named
-              (subst (λ (z : State V). Traces (length s.cells) (cell_of places 0) steps s.log z.log) (sym after) (traced m s x n steps places chain within));
+          after = after;
+          traces = subst (λ (z : State V). Traces (length s.cells) (cell_of places 0) steps s.log z.log) (sym after) (traced m s x n steps places chain within);
         }

@@ -43,19 +43,22 @@ after_steps m s places steps (suc i) = stepped m (after_steps m s places steps i
 abbrev pub after_run : {V : Type 0} → Meaning V → State V → List ℕ → List Step → V → State V
 after_run m s places steps x = after_steps m (loaded s (cell_of places 0) x) places steps (length steps)
 
--- an accepted run, on the supplied cells: what it handed out, and what it left
+-- an accepted run, under one placing: what it handed out, and what it left
 pub record Success {V : Type 0} (m : Meaning V) (s : State V) (n : ℕ) (steps : List Step) (x : V) (given : V) (t : State V) : Type 0 where
-  -- the cells of the values are the supplied placing, and are within the unit's
-  pub supplied : Supplied steps (supplied_cells steps)
+  -- the cells of the values, which are the supplied placing and are within the unit's
+  pub places : List ℕ
+  pub supplied : Supplied steps places
   pub fits : need steps ≤ length s.cells
   -- it handed out the n-th power of the base
   pub value : given ≡ power m x n
   -- the allowance is lower by the length of the plan
   pub left : s.left ≡ t.left + length steps
   -- the whole state after
-  pub after : t ≡ after_run m s (supplied_cells steps) steps x
+  pub after : t ≡ after_run m s places steps x
   -- the records that it added, worked in sums from 1 in the cell of a_0, give a_1 to a_r in order
-  pub traces : Traces (length s.cells) (cell_of (supplied_cells steps) 0) steps s.log t.log
+  pub traces : Traces (length s.cells) (cell_of places 0) steps s.log t.log
+  -- those cells by name
+  pub named : places ≡ supplied_cells steps
 
 -- a run from the value x that the cell of a_0 holds: the steps are a chain for n, the placing is within the cells, and the allowance is enough
 pub record Ready {V : Type 0} (m : Meaning V) (s : State V) (n : ℕ) (steps : List Step) (places : List ℕ) (x : V) : Type 0 where

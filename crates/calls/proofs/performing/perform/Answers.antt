@@ -1,7 +1,7 @@
 use Rattle.std.proofs.Common.{◌≡◌, ℕ, ◌<◌, ◌≤◌, List, length, get_or, take, drop, sym, refl, ap, ◌∙◌, subst, arith, take_all, rules}
 use Rattle.kinds.specs.Kinds.{Meaning}
 use Rattle.calls.specs.declared.call.Call.{Call}
-use Rattle.calls.specs.Lists.{setting, Performed, turns}
+use Rattle.calls.specs.Lists.{bench, Performed, turns}
 use Rattle.calls.proofs.Events.{list_short, list_made, performed_more, drop_more, law_of}
 use Rattle.calls.proofs.performing.perform.Goals as goal
 
@@ -24,7 +24,7 @@ loop-i-preserved g c =
     let u = c.args.unit.now in
     let inv = c.loop-i.invariant in (
       performed_more (g.U.Kind.kind u) (g.U.Kind.kind c.loop-i.unit) (length c.args.table.now) (length c.loop-i.table)
-          (setting (g.U.Unit.state u) c.args.table.now) (setting (g.U.Unit.state c.loop-i.unit) c.loop-i.table) (setting (g.U.Unit.state c.perform_call.new.unit) c.perform_call.new.table)
+          (bench (g.U.Unit.state u) c.args.table.now) (bench (g.U.Unit.state c.loop-i.unit) c.loop-i.table) (bench (g.U.Unit.state c.perform_call.new.unit) c.perform_call.new.table)
           c.args.calls.now c.loop-i.answers i c.index-calls-i.result c.perform_call.result
           inv.2 (omega arith) (omega arith) (omega arith) c.index-calls-i.is inv.0 c.perform_call.ensures.made,
       drop_more c.loop-i.answers c.args.answers.now i c.perform_call.result inv.1,
@@ -38,8 +38,8 @@ returns g c =
     let m = g.U.Kind.kind u in
     let calls = c.args.calls.now in
     let room = length c.args.table.now in
-    let first = setting (g.U.Unit.state u) c.args.table.now in
-    let last = setting (g.U.Unit.state c.loop-i.unit) c.loop-i.table in
+    let first = bench (g.U.Unit.state u) c.args.table.now in
+    let last = bench (g.U.Unit.state c.loop-i.unit) c.loop-i.table in
     let end : c.loop-i.i ≡ length calls = omega arith in
     let all : take c.loop-i.i calls ≡ calls = take_all c.loop-i.i calls (omega arith) in
     let done : Performed m room first (turns calls c.loop-i.answers) last =

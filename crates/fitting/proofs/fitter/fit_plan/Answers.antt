@@ -8,7 +8,7 @@ use Rattle.kinds.specs.Powers.{power}
 use Rattle.run_laws.specs.Runs.{run_fault}
 use Rattle.fitting.specs.Fitting.{rehearsal_fault}
 use Rattle.refusals.proofs.Answered.{answer_none, answer_some, answer_value, exit_is, unchanged_err}
-use Rattle.fitting.proofs.Trims.{trim_never, trim_length, front_is, admit_never, place_never, start_is, placed, rehearsed, not_rehearsed, not_run, fits, unit_kept, unit_run}
+use Rattle.fitting.proofs.Trims.{trim_never, trim_length, front_is, admit_never, place_never, start_is, placed, placed_cells, rehearsed, not_rehearsed, not_run, fits, unit_kept, unit_run}
 use Rattle.fitting.proofs.fitter.fit_plan.Goals as goal
 
 pub returns-in_err-length : goal.returns-in_err-length
@@ -37,7 +37,7 @@ returns-in_err-place g c =
 pub rehearse-requires : goal.rehearse-requires
 rehearse-requires g c =
     let short : List Step = c.admit.new.self.steps.now in
-    start_is short c.place.new.places (drop (length short + 1) c.args.cells.now) c.in_ok-place.ensures.after
+    start_is short c.place.new.places c.in_ok-place.ensures.after.0
 
 pub returns-in_err-rehearse : goal.returns-in_err-rehearse
 returns-in_err-rehearse g c =
@@ -61,6 +61,7 @@ returns-in_err-rehearse g c =
       after = unit_kept steps short is m s plan.exponent c.args.base c.from_residual-in_err-rehearse.result e s out refl;
       table = told.after;
       cells = placed steps short is c.args.cells.now c.place.new.places c.in_ok-place.ensures.after;
+      named = placed_cells steps short is c.args.cells.now c.place.new.places c.in_ok-place.ensures.cells;
       exponents = rehearsed steps short is c.args.exponents.now c.rehearse.new.exponents c.in_err-rehearse.ensures.after;
       refused = unchanged_err c.from_residual-in_err-rehearse.result e u u out refl;
       same = refl;
@@ -90,6 +91,7 @@ returns-in_err-power g c =
       after = unit_kept steps short is m s plan.exponent x c.from_residual-in_err-power.result e (g.U.Unit.state c.run_on_card.new.unit) out c.in_err-power.ensures.after;
       table = told.after;
       cells = placed steps short is c.args.cells.now c.place.new.places c.in_ok-place.ensures.after;
+      named = placed_cells steps short is c.args.cells.now c.place.new.places c.in_ok-place.ensures.cells;
       exponents = rehearsed steps short is c.args.exponents.now c.rehearse.new.exponents c.in_ok-rehearse.ensures.after;
       refused = unchanged_err c.from_residual-in_err-power.result e u c.run_on_card.new.unit out c.in_err-power.ensures.refused;
       same = c.in_err-power.ensures.same;
@@ -125,6 +127,7 @@ returns g c =
       after = unit_run steps short is m s plan.exponent x c.admit.new.self.exponent y t size ran.after;
       table = told.after;
       cells = placed steps short is c.args.cells.now c.place.new.places c.in_ok-place.ensures.after;
+      named = placed_cells steps short is c.args.cells.now c.place.new.places c.in_ok-place.ensures.cells;
       exponents = rehearsed steps short is c.args.exponents.now c.rehearse.new.exponents c.in_ok-rehearse.ensures.after;
       refused = tt;
       same = ran.same;

@@ -6,7 +6,9 @@ use Rattle.sheets.specs.Reading.{read_sheet, counted, filled}
 use Rattle.runs.specs.Answers.{run_answer, Ran}
 use Rattle.jobs.specs.declared.job_refusal.JobRefusal.{JobRefusal}
 use Rattle.jobs.specs.declared.stage.Stage.TheVariants.{Reading, Admission, Running}
+use Rattle.jobs.specs.Jobs.{job_plan}
 use Rattle.jobs.proofs.Stages.{read_left, read_is, read_fits, on_ok, unread_answer, unread_after, stopped_answer, stopped_after, worked_answer, worked_after, as_asked, kept_on}
+use Rattle.jobs.proofs.Carried.{job_answered, jobbed}
 use Rattle.jobs.proofs.carrying.job.Goals as goal
 
 pub slice_bounds-admit-end : goal.slice_bounds-admit-end
@@ -33,8 +35,9 @@ returns-in_err-count g c =
     let on = c.in_err-count.ensures.value in
     let out = exit_is c.from_residual.result e c.from_residual.ensures.1 in
     record {
-      answer = out ∙ unread_answer sheet n c.read.result e said on (λ steps. run_answer m s n steps x);
-      after = unread_after sheet n c.read.result e said on (s ≡ s) (λ steps. Ran m s n steps x (run_answer m s n steps x) s) refl;
+      answer = job_answered m s n x sheet c.from_residual.result (out ∙ unread_answer sheet n c.read.result e said on (λ steps. run_answer m s n steps x));
+      after = jobbed m s n x (job_plan sheet n) s
+          (unread_after sheet n c.read.result e said on (s ≡ s) (λ steps. Ran m s n steps x (run_answer m s n steps x) s) refl);
       table = c.read.ensures.after ∙ ap (λ r. filled r table) same;
       refused = unchanged_err c.from_residual.result e u u out refl;
       same = refl;
@@ -59,8 +62,10 @@ returns-in_err-at_stage g c =
     let on = c.in_err-at_stage.ensures.value in
     let out = exit_is c.from_residual-in_err-at_stage.result e c.from_residual-in_err-at_stage.ensures.1 in
     record {
-      answer = out ∙ stopped_answer sheet n steps is c.admit.result c.admit.ensures.answer e on (λ l. run_answer m s n l x);
-      after = stopped_after sheet n steps is c.admit.result c.admit.ensures.answer e on (s ≡ s) (λ l. Ran m s n l x (run_answer m s n l x) s) refl;
+      answer = job_answered m s n x sheet c.from_residual-in_err-at_stage.result
+          (out ∙ stopped_answer sheet n steps is c.admit.result c.admit.ensures.answer e on (λ l. run_answer m s n l x));
+      after = jobbed m s n x (job_plan sheet n) s
+          (stopped_after sheet n steps is c.admit.result c.admit.ensures.answer e on (s ≡ s) (λ l. Ran m s n l x (run_answer m s n l x) s) refl);
       table = read_left sheet own same c.args.table.now c.read.new.table c.read.result c.in_ok-count.count
           c.read.ensures.answer c.in_ok-count.ensures.value c.read.ensures.after;
       refused = unchanged_err c.from_residual-in_err-at_stage.result e u u out refl;
@@ -94,9 +99,11 @@ returns g c =
     subst (λ z. Ran m s n steps x z t) ran
     (as_asked (λ k l. Ran m s k l x r t) c.admit.new.self.exponent n c.admit.new.self.steps.now steps held.0 held.1 c.run.ensures.after) in
     record {
-      answer = worked_answer sheet n steps is c.admit.result c.admit.ensures.answer c.in_ok-at_stage.field-0 on (λ l. run_answer m s n l x)
-          r c.at_stage-3.result ran c.at_stage-3.ensures.value;
-      after = worked_after sheet n steps is c.admit.result c.admit.ensures.answer c.in_ok-at_stage.field-0 on (t ≡ s) (λ l. Ran m s n l x (run_answer m s n l x) t) left;
+      answer = job_answered m s n x sheet c.at_stage-3.result
+          (worked_answer sheet n steps is c.admit.result c.admit.ensures.answer c.in_ok-at_stage.field-0 on (λ l. run_answer m s n l x)
+          r c.at_stage-3.result ran c.at_stage-3.ensures.value);
+      after = jobbed m s n x (job_plan sheet n) t
+          (worked_after sheet n steps is c.admit.result c.admit.ensures.answer c.in_ok-at_stage.field-0 on (t ≡ s) (λ l. Ran m s n l x (run_answer m s n l x) t) left);
       table = read_left sheet own same c.args.table.now c.read.new.table c.read.result c.in_ok-count.count
           c.read.ensures.answer c.in_ok-count.ensures.value c.read.ensures.after;
       refused = kept_on Running r c.at_stage-3.result u c.run.new.unit c.at_stage-3.ensures.value c.run.ensures.refused;

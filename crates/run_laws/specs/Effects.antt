@@ -62,3 +62,16 @@ pub record Law {V : Type 0} (m : Meaning V) (s : State V) (h : List (Event V)) (
   pub silent : (before after : List (Event V)) (e : Event V) → Split h before e after → e.run ≡ None → e.given ≡ None
   -- there are as many cells as at the start, and records are kept exactly if they were
   pub shape : SameShape s t
+
+-- what one call owes to the law, from the state s before it to the state t after it
+pub record Effect {V : Type 0} (m : Meaning V) (s : State V) (e : Event V) (t : State V) : Type 0 where
+  pub powers : (r : Asked V) (vs : List V) → e.run ≡ Some r → e.given ≡ Some vs → Powers m r vs
+  pub left : s.left ≡ t.left + cost_of e.run e.given
+  pub refused : (r : Asked V) → e.run ≡ Some r → Exactly (e.given ≡ None) (Cause (length s.cells) s.left r)
+  pub silent : e.run ≡ None → e.given ≡ None
+  pub shape : SameShape s t
+
+-- the calls were made in turn, each on the state that the one before had left
+abbrev pub InTurn : {V : Type 0} → Meaning V → State V → List (Event V) → State V → Type 0
+InTurn m s [] t = t ≡ s
+InTurn {V} m s (e ∷ es) t = (u : State V) × Effect m s e u × InTurn m u es t
