@@ -6,7 +6,7 @@ use Rattle.refusals.specs.declared.refusal.Refusal.{Refusal}
 use Rattle.refusals.specs.declared.refusal.Refusal.TheVariants.{Exponent, Method, TableShort}
 use Rattle.plans.specs.declared.step.Step.{Step}
 use Rattle.planning.specs.Planning.{is_exponent, request, length_or, written}
-use Rattle.std.specs.Result.{result_and}
+use Rattle.plans.specs.Admission.{then}
 use Rattle.methods.specs.declared.method.Method.{Method as PlanMethod}
 use Rattle.methods.specs.declared.method.Method.TheVariants.{LeftToRight, RightToLeft, Factor, Digits, Tree}
 use Rattle.methods.specs.declared.request.PlanRequest.{PlanRequest}
@@ -35,7 +35,7 @@ request_enough allowed n places h =
     let t : leb 128 places ≡ true = le-leb _ _ h in
     ap (λ (x : Bool). cond (is_exponent n) (cond allowed (cond x (Ok tt) (Err (TableShort 128))) (Err Method)) (Err Exponent)) t
 
-then_passes : (a b : Bool) → result_and (passes a b) (Ok tt) ≡ passes a b
+then_passes : (a b : Bool) → then (passes a b) (Ok tt) ≡ passes a b
 then_passes true true = refl
 then_passes true false = refl
 then_passes false b = refl
@@ -48,8 +48,8 @@ request_by_lem Factor n steps parents h k = request_enough (allows Factor n) n s
 request_by_lem (Digits width) n steps parents h k = request_enough (allows (Digits width) n) n steps h
 request_by_lem Tree n steps parents h k =
     let t : leb 1025 parents ≡ true = le-leb _ _ k in
-    ap (λ (x : Bool). result_and (request (leb n 1024) n steps) (cond x (Ok tt) (Err (TableShort 1025)))) t
-    ∙ ap (λ (x : Result (Unit {0}) Refusal). result_and x (Ok tt)) (request_enough (leb n 1024) n steps h)
+    ap (λ (x : Bool). then (request (leb n 1024) n steps) (cond x (Ok tt) (Err (TableShort 1025)))) t
+    ∙ ap (λ (x : Result (Unit {0}) Refusal). then x (Ok tt)) (request_enough (leb n 1024) n steps h)
     ∙ then_passes (is_exponent n) (leb n 1024)
 
 -- and its answer

@@ -6,7 +6,7 @@ use Rattle.std.proofs.lemmas.Bool.{le-leb, lt-leb}
 use Rattle.refusals.specs.declared.refusal.Refusal.{Refusal}
 use Rattle.refusals.specs.declared.refusal.Refusal.TheVariants.{TableShort}
 use Rattle.plans.specs.declared.step.Step.{Step}
-use Rattle.std.specs.Result.{result_and}
+use Rattle.plans.specs.Admission.{then}
 use Rattle.plans.specs.Chain.{Chain}
 use Rattle.planning.specs.Planning.{request, length_or}
 use Rattle.power_tree.specs.Growth.{path_onto, grown_parents}
@@ -41,19 +41,19 @@ count_plan n len path e w = w ∙ ap length (path_plan n path e)
 
 -- a request that is refused
 pub refused : (n steps parents : ℕ) (plan : List Step) (r : Refusal) → Err r ≡ request (leb n 1024) n steps → Err r ≡ length_or (tree_request n steps parents) plan
-refused n steps parents plan r e = ap (λ q. length_or (result_and q (cond (leb 1025 parents) (Ok tt) (Err (TableShort 1025)))) plan) e
+refused n steps parents plan r e = ap (λ q. length_or (then q (cond (leb 1025 parents) (Ok tt) (Err (TableShort 1025)))) plan) e
 
 pub too_short : (n steps parents : ℕ) (plan : List Step) → Ok tt ≡ request (leb n 1024) n steps → parents < 1025 → Err (TableShort 1025) ≡ length_or (tree_request n steps parents) plan
 too_short n steps parents plan e h =
     let f : leb 1025 parents ≡ false = lt-leb 1025 parents h in
-    let g : Err (TableShort 1025) ≡ tree_request n steps parents = sym (ap (λ b. cond b (Ok tt) (Err (TableShort 1025))) f) ∙ ap (λ r. result_and r (cond (leb 1025 parents) (Ok tt) (Err (TableShort 1025)))) e in
+    let g : Err (TableShort 1025) ≡ tree_request n steps parents = sym (ap (λ b. cond b (Ok tt) (Err (TableShort 1025))) f) ∙ ap (λ r. then r (cond (leb 1025 parents) (Ok tt) (Err (TableShort 1025)))) e in
     ap (λ r. length_or r plan) g
 
 -- a request that is granted
 pub granted : (n steps parents : ℕ) (plan : List Step) → Ok tt ≡ request (leb n 1024) n steps → 1025 ≤ parents → Ok (length plan) ≡ length_or (tree_request n steps parents) plan
 granted n steps parents plan e h =
     let f : leb 1025 parents ≡ true = le-leb 1025 parents h in
-    let g : Ok tt ≡ tree_request n steps parents = sym (ap (λ b. cond b (Ok tt) (Err (TableShort 1025))) f) ∙ ap (λ r. result_and r (cond (leb 1025 parents) (Ok tt) (Err (TableShort 1025)))) e in
+    let g : Ok tt ≡ tree_request n steps parents = sym (ap (λ b. cond b (Ok tt) (Err (TableShort 1025))) f) ∙ ap (λ r. then r (cond (leb 1025 parents) (Ok tt) (Err (TableShort 1025)))) e in
     ap (λ r. length_or r plan) g
 
 -- the table of parents, filled
