@@ -1,5 +1,5 @@
 -- Cells and values by the pigeonhole: a placing has a cell for each value that is live, and cells that are all taken are no more than the values held. Assumes nothing.
-use Rattle.std.proofs.Common.{◌≡◌, ℕ, zero, suc, ◌+◌, ◌<◌, ◌≤◌, Bool, true, List, length, get_or, sym, refl, ◌∙◌, inl, inr, arith}
+use Rattle.std.proofs.Common.{◌≡◌, ℕ, zero, suc, ◌<◌, ◌≤◌, Bool, true, List, length, get_or, sym, refl, ◌∙◌, inl, inr, arith}
 use Rattle.std.proofs.lemmas.Bool.{cases_order, cases_eq, both_ways}
 use Rattle.plans.specs.declared.step.Step.{Step}
 use Rattle.placing.specs.Placing.{held, count, live, most, need, Placing}

@@ -1,13 +1,12 @@
 -- The fault that admission answers is the first. Assumes nothing.
-use Rattle.std.proofs.Common.{◌≡◌, ℕ, zero, suc, ◌+◌, ◌^◌, ◌<◌, ◌≤◌, true, false, cond, ◌&&◌, eqb, ltb, leb, ◌⊎◌, List, length, drop, IfErr, Ok, Err, sym, refl, ap, ◌∙◌, subst, inl, inr, ⊎_elim, arith}
+use Rattle.std.proofs.Common.{◌≡◌, ℕ, zero, suc, ◌+◌, ◌^◌, ◌<◌, ◌≤◌, ◌&&◌, eqb, ltb, leb, List, length, drop, IfErr, Ok, Err, sym, refl, ap, ◌∙◌, subst, inl, inr, ⊎_elim, arith}
 use Rattle.std.proofs.lemmas.Bool.Decides.{nat_tests}
 use Rattle.std.proofs.lemmas.Bool.{cond_both, cases_lt, eqb-true, eqb-false, leb-true, leb-false}
-use Rattle.refusals.specs.declared.refusal.Refusal.TheVariants.{Exponent, TooLong, Citation, NotSum, NotRising, NotReached}
 use Rattle.plans.specs.declared.step.Step.{Step}
 use Rattle.plans.specs.Admission.{Answer, step_answer, then, answer_from, admission}
-use Rattle.plans.specs.Chain.{step_at, value_at, CitesAt, SumsAt, RisesAt, Reaches}
+use Rattle.plans.specs.Chain.{step_at, value_at, CitesAt, SumsAt, RisesAt}
 use Rattle.plans.specs.FirstFault.{Keeps, KeptBefore, FirstFault}
-use Rattle.plans.proofs.Admissions.{kept_from_ok, answer_here, answer_end, admission_inside}
+use Rattle.plans.proofs.Admissions.{kept_from_ok, answer_here, answer_end}
 
 -- an answer that is a fault is the first
 abbrev Faulty : ℕ → List Step → Answer → Type 0

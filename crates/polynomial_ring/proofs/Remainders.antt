@@ -1,10 +1,10 @@
 -- Remainders modulo f, and the two laws of the product. Assumes nothing.
-use Rattle.std.proofs.Common.{◌≡◌, ℕ, zero, suc, pred, ◌+◌, ◌-◌, ◌*◌, ◌/◌, ◌%◌, ◌^◌, ◌<◌, ◌≤◌, ltb, ◌⊎◌, sym, refl, ap, ◌∙◌, subst, ap₂, inl, inr, le_refl, not-suc-le-zero, mul-le-mul_right, eq-zero-or-pos, not-le_of_lt, add-one, arith, pow_pos, pow_mono}
+use Rattle.std.proofs.Common.{◌≡◌, ℕ, zero, suc, ◌+◌, ◌-◌, ◌*◌, ◌/◌, ◌%◌, ◌^◌, ◌<◌, ◌≤◌, ltb, ◌⊎◌, sym, ap, ◌∙◌, subst, ap₂, inl, inr, le_refl, not-suc-le-zero, mul-le-mul_right, eq-zero-or-pos, not-le_of_lt, arith, pow_pos}
 use lib.Arith.{half_le, bin_ind}
 use lib.Bits.{bit_xor, xor_assoc, xor_comm, xor_self, xor_zero_r, xor_block, xor_lt}
-use Rattle.std.proofs.lemmas.Bool.{cases_lt, cases_order, lt-ltb, le-ltb, cond-true, cond-false}
+use Rattle.std.proofs.lemmas.Bool.{cases_lt, lt-ltb, le-ltb, cond-true, cond-false}
 use Rattle.bits.specs.Bits.{top}
-use Rattle.bits.proofs.Tops.{top_bounds, top_unique, top_lt}
+use Rattle.bits.proofs.Tops.{top_bounds}
 use Rattle.polynomial_ring.specs.Polynomials.{times, reduce, rem_in, rem, product}
 use Rattle.polynomial_ring.specs.Laws.{Remainder, Reduces}
 use Rattle.polynomial_ring.proofs.Products.{bit_lt, xor_cancel, xor4, xor_dbl, xor_split, times_zero, times_step, times_add_l, times_add_r, times_dbl_r, times_one_l, times_comm, times_assoc}

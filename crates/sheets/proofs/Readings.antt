@@ -4,8 +4,8 @@ use Rattle.refusals.specs.declared.refusal.Refusal.{Refusal}
 use Rattle.plans.specs.declared.step.Step.{Step}
 use Rattle.sheets.specs.declared.fault.Fault.{Fault}
 use Rattle.sheets.specs.declared.column.Column.{Column}
-use Rattle.sheets.specs.Lines.{line, line_bytes}
-use Rattle.sheets.specs.Reading.{fault, read_line, line_in, Found, or_next, first_fault, step_of, steps_from, text_lines, told, unless_found}
+use Rattle.sheets.specs.Lines.{line_bytes}
+use Rattle.sheets.specs.Reading.{read_line, line_in, Found, or_next, first_fault, step_of, steps_from, text_lines, told, unless_found}
 use Rattle.sheets.specs.Places.{Place, at, moved, stand}
 use Rattle.std.proofs.lemmas.List.{drop_more, set_at, append_assoc}
 

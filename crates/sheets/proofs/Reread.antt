@@ -1,5 +1,5 @@
 -- A sheet that was written reads as the same steps.
-use Rattle.std.proofs.Common.{◌≡◌, ℕ, zero, suc, ◌+◌, ◌-◌, ◌*◌, ◌/◌, ◌%◌, ◌^◌, ◌<◌, ◌≤◌, cond, leb, List, [], ◌∷◌, ◌++◌, length, get_or, take, drop, Some, None, Ok, Err, decimal, sym, refl, ap, ◌∙◌, subst, arith, lit<, lit≤}
+use Rattle.std.proofs.Common.{◌≡◌, ℕ, zero, suc, ◌+◌, ◌*◌, ◌/◌, ◌%◌, ◌^◌, ◌<◌, ◌≤◌, cond, leb, List, [], ◌∷◌, ◌++◌, length, get_or, take, drop, Some, None, Ok, Err, decimal, sym, refl, ap, ◌∙◌, subst, arith, lit<, lit≤}
 use Rattle.refusals.specs.declared.refusal.Refusal.TheVariants.{TooLong, SheetLine, TableShort}
 use Rattle.fields.specs.Field.{field, field_value}
 use Rattle.fields.proofs.Inverse.{length_field, digits_within, read_field}

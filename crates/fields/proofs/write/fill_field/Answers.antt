@@ -1,4 +1,4 @@
-use Rattle.std.proofs.Common.{◌-◌, ◌<◌, length, arith, length-set}
+use Rattle.std.proofs.Common.{◌<◌, length, arith, length-set}
 use Rattle.std.proofs.lemmas.Fmt.{decimal_nonempty}
 use Rattle.fields.proofs.Digits.{digit_in, digit_first, blank_in, blanks_none, column_left}
 use Rattle.fields.proofs.write.fill_field.Goals as goal

@@ -1,4 +1,4 @@
-use Rattle.std.proofs.Common.{◌≡◌, ◌+◌, ◌-◌, ◌++◌, drop, set, sym, ap, ◌∙◌, arith}
+use Rattle.std.proofs.Common.{◌≡◌, ◌+◌, ◌++◌, drop, set, sym, ap, ◌∙◌, arith}
 use Rattle.sheets.specs.Reading.{steps_from}
 use Rattle.sheets.proofs.Readings.{turn_passes, turn_clean, fill_more}
 use Rattle.sheets.proofs.reader.SheetReader.fill.Goals as goal

@@ -1,4 +1,4 @@
-use Rattle.std.proofs.Common.{◌-◌, refl, ap, ◌∙◌}
+use Rattle.std.proofs.Common.{refl, ap, ◌∙◌}
 use Rattle.sheets.specs.Reading.{told}
 use Rattle.sheets.specs.Places.{moved}
 use Rattle.sheets.proofs.Readings.{line_part}
