@@ -83,7 +83,7 @@ def camel(name):
 
 
 def respelled():
-    """Old name to new name."""
+    """Old name to new name, and the old names of record fields."""
     names, fields, types = declared()
     new = {}
     for name in [*names, *fields]:
@@ -111,7 +111,7 @@ def respelled():
     for old, name in new.items():
         if name in RESERVED:
             print(f"respell: {old} would be the reserved word {name}")
-    return new
+    return new, set(fields)
 
 
 def foreign(text, own):
@@ -125,7 +125,7 @@ def foreign(text, own):
     return out
 
 
-def turn(path, new, pattern, own):
+def turn(path, new, fields, pattern, own):
     text = read(path)
     theirs = foreign(text, own)
 
@@ -140,7 +140,7 @@ def turn(path, new, pattern, own):
             print(f"respell: {path}: {word} is the library's there, and stays")
             return word
         # A dash behind a dot names a step or a goal of Rattle's, unless it is a field of a record here.
-        if before.endswith(".") and "-" in word and re.search(r"(?:^|[\s({\[])(?:c|l|w|goal|a|at)(?:\.[^\s(){}]*)?\.$", before):
+        if before.endswith(".") and "-" in word and word not in fields and re.search(r"(?:^|[\s({\[])(?:c|l|w|goal|a|at)(?:\.[^\s(){}]*)?\.$", before):
             return word
         return new[word]
 
@@ -165,14 +165,14 @@ def turn_proofs_cited(path, new, own):
 
 
 def main():
-    new = respelled()
+    new, fields = respelled()
     own = own_crates()
     for path in proofs():
-        turn(path, new, IN_PROOFS, own)
+        turn(path, new, fields, IN_PROOFS, own)
     of_definitions = {old: name for old, name in new.items() if "-" not in old}
     texts = glob.glob("crates/*/src/*.rt") + glob.glob("crates/*/must-fail/*.edit") + glob.glob("docs/*.md") + ["README.md"]
     for path in sorted(texts):
-        turn(path, of_definitions, IN_TEXT, own)
+        turn(path, of_definitions, fields, IN_TEXT, own)
         if path.endswith(".rt"):
             turn_proofs_cited(path, new, own)
     print(f"respell: {len(new)} names")

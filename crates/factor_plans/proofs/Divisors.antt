@@ -1,5 +1,5 @@
 -- The smallest divisor above 1. Assumes nothing.
-use Rattle.std.proofs.Common.{◌≡◌, ℕ, zero, suc, ◌+◌, ◌-◌, ◌*◌, ◌/◌, ◌%◌, ◌<◌, ◌≤◌, true, false, cond, eqb, ltb, Some, None, Option, sym, refl, ap, ◌∙◌, subst, ⊎_elim, mod-eq_of_lt, mul_comm, div-lt_iff_lt-mul, mul-le-mul, div-add-mod', le-div_iff_mul-le, arith}
+use Rattle.std.proofs.Common.{◌≡◌, ℕ, zero, suc, ◌+◌, ◌*◌, ◌/◌, ◌%◌, ◌<◌, ◌≤◌, true, false, eqb, ltb, Some, None, sym, refl, ap, ◌∙◌, subst, ⊎_elim, mod-eq_of_lt, mul_comm, div-lt_iff_lt-mul, mul-le-mul, div-add-mod', le-div_iff_mul-le, arith}
 use native.Mathlib.Nat.{mod_self, mul-mod_right, div-eq_of_eq-mul_right}
 use Rattle.std.proofs.lemmas.Bool.{eqb-true, eqb-false, lt-ltb, le-ltb, cases_lt, cases_order, cond_both}
 use Rattle.factor_plans.specs.Divisors.{Least, divisor_from, least_divisor, least_of}

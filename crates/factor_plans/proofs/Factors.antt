@@ -1,5 +1,5 @@
 -- The plan of the factor method: its rule, its length, and how it is written. Assumes nothing.
-use Rattle.std.proofs.Common.{◌≡◌, ℕ, zero, suc, ◌+◌, ◌-◌, ◌*◌, ◌/◌, ◌%◌, ◌^◌, ◌<◌, ◌≤◌, true, false, cond, eqb, leb, List, [], ◌∷◌, ◌++◌, map, length, drop, set, sym, refl, ap, ◌∙◌, subst, ⊎_elim, add-zero, add-suc, mul_assoc, mul_comm, mul-le-mul, suc-add, arith, length-append}
+use Rattle.std.proofs.Common.{◌≡◌, ℕ, zero, suc, ◌+◌, ◌-◌, ◌*◌, ◌/◌, ◌%◌, ◌^◌, ◌<◌, ◌≤◌, true, false, eqb, leb, List, [], ◌∷◌, ◌++◌, map, length, drop, set, sym, refl, ap, ◌∙◌, subst, ⊎_elim, add-zero, add-suc, mul_assoc, mul_comm, mul-le-mul, suc-add, arith, length-append}
 use lib.ListN.{length-map}
 use lib.Seq.{sets, sets-eq}
 use Rattle.std.proofs.lemmas.List.{length_push, map-append}

@@ -1,5 +1,5 @@
 -- A chain that goes on from another: its values are times p, and its a_0 is p. Assumes nothing.
-use Rattle.std.proofs.Common.{◌≡◌, ℕ, zero, suc, ◌+◌, ◌-◌, ◌*◌, ◌/◌, ◌^◌, ◌<◌, ◌≤◌, List, [], ◌∷◌, ◌++◌, map, length, sym, refl, ap, ◌∙◌, subst, ⊎_elim, add-zero, add-suc, mul_comm, add-mul, mul-le-mul, mul-lt-mul_of_pos_right, arith, length-append, get_or-append-add}
+use Rattle.std.proofs.Common.{◌≡◌, ℕ, zero, suc, ◌+◌, ◌-◌, ◌*◌, ◌/◌, ◌^◌, ◌<◌, ◌≤◌, List, map, length, sym, ap, ◌∙◌, subst, ⊎_elim, add-zero, add-suc, mul_comm, add-mul, mul-le-mul, mul-lt-mul_of_pos_right, arith, length-append, get_or-append-add}
 use lib.ListN.{length-map, get_or-append}
 use Rattle.std.proofs.lemmas.List.{get_or-map}
 use Rattle.std.proofs.lemmas.Bool.{cases_lt, cases_eq}

@@ -1,5 +1,5 @@
 -- A sheet, stage by stage, whatever is done with its steps in the last. Assumes nothing.
-use Rattle.std.proofs.Common.{◌≡◌, ℕ, ◌+◌, ◌-◌, ◌≤◌, List, [], ◌∷◌, ◌++◌, length, take, drop, Some, None, Ok, Err, Option, Result, sym, refl, ap, ◌∙◌, subst, arith, length-append, MatchOption, MatchResult}
+use Rattle.std.proofs.Common.{◌≡◌, ℕ, ◌-◌, ◌≤◌, List, length, take, drop, Ok, Err, Option, Result, sym, refl, ap, ◌∙◌, subst, arith, length-append, MatchOption, MatchResult}
 use native.Mathlib.Nat.{sub-zero}
 use lib.Seq.{take-append_seam}
 use Rattle.refusals.specs.declared.refusal.Refusal.{Refusal}

@@ -1,14 +1,14 @@
 -- The tree that grows over a table of parents is the power tree: level by level the two have the same numbers, paths and parents.
-use Rattle.std.proofs.Common.{◌≡◌, ℕ, zero, suc, ◌+◌, ◌-◌, ◌/◌, ◌%◌, ◌^◌, ◌<◌, ◌≤◌, Bool, true, false, cond, eqb, leb, ◌⊎◌, List, [], ◌∷◌, ◌++◌, length, get_or, drop, set, replicate, sym, refl, ap, ◌∙◌, subst, inl, inr, ⊎_elim, append_assoc, append-nil, add-zero, arith, get_or-set_same}
+use Rattle.std.proofs.Common.{◌≡◌, ℕ, zero, suc, ◌+◌, ◌-◌, ◌/◌, ◌%◌, ◌^◌, ◌<◌, ◌≤◌, true, false, eqb, leb, ◌⊎◌, List, [], ◌∷◌, ◌++◌, length, get_or, drop, set, replicate, sym, refl, ap, ◌∙◌, subst, inl, inr, ⊎_elim, append_assoc, append-nil, add-zero, arith, get_or-set_same}
 use lib.ListN.{length-replicate, get_or-replicate}
 use Rattle.std.proofs.lemmas.List.{length-drop, length_push, drop-append-le, drop-drop, get_or-drop}
 use Rattle.std.proofs.lemmas.Bool.{eq-eqb, ne_eqb, le-leb, lt-leb, cases_eq, cases_lt}
 use Rattle.power_tree.specs.Tree.{Level, level, hung, hung_all, first_of, second_of, turned, grown_by, next_level, first_level, path_in, or_else, path_from, tree_path, tree_parent}
-use Rattle.power_tree.specs.Growth.{Growth, growth, path_onto, is_open, hang, hang_all, turn, turns, Stage, stage, next_stage, stage_at, grown_parents}
+use Rattle.power_tree.specs.Growth.{Growth, growth, path_onto, hang, hang_all, turn, turns, Stage, stage, next_stage, stage_at, grown_parents}
 use Rattle.power_tree.specs.Rule.{level_at}
 use Rattle.power_tree.proofs.Bits.{In}
 use Rattle.power_tree.proofs.Levels.{Among, Each, Good, good_positive, good_first, good_child, among_turned, each_turned, each_map, child, hung_cases, bit_one, only_one, Reached, each_level, level_next, level_first}
-use Rattle.power_tree.proofs.Plans.{Path, in_level, or_else_lem, tree_path_lem, bound_small}
+use Rattle.power_tree.proofs.Plans.{in_level, or_else_lem, tree_path_lem, bound_small}
 use Rattle.power_tree.proofs.Holding.{Climbs, Stands, stands_parent, stands_path, climbs_kept, filled, Held, held_room, held_set}
 
 -- the first numbers of paths

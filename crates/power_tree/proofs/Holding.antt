@@ -1,11 +1,11 @@
 -- A table of parents that holds a tree: which numbers it has, and the paths that can be climbed in it.
-use Rattle.std.proofs.Common.{◌≡◌, ℕ, zero, suc, ◌+◌, ◌-◌, ◌/◌, ◌%◌, ◌^◌, ◌<◌, ◌≤◌, ◌⊎◌, List, [], ◌∷◌, ◌++◌, length, get_or, set, sym, refl, ap, ◌∙◌, subst, inl, inr, ⊎_elim, arith, get_or-set_other, get_or-set_same}
+use Rattle.std.proofs.Common.{◌≡◌, ℕ, zero, suc, ◌+◌, ◌/◌, ◌%◌, ◌^◌, ◌<◌, ◌≤◌, List, [], ◌∷◌, ◌++◌, length, get_or, set, sym, refl, ap, ◌∙◌, inl, ⊎_elim, arith, get_or-set_other, get_or-set_same}
 use Rattle.std.proofs.lemmas.List.{length-set, length_push}
 use Rattle.std.proofs.lemmas.Bool.{cases_eq}
 use Rattle.power_tree.specs.Tree.{first_of, second_of, turned}
 use Rattle.power_tree.specs.Growth.{path_onto}
-use Rattle.power_tree.proofs.Bits.{In, in_same, in_other}
-use Rattle.power_tree.proofs.Levels.{Among, Good, good_positive}
+use Rattle.power_tree.proofs.Bits.{in_same, in_other}
+use Rattle.power_tree.proofs.Levels.{Good, good_positive}
 
 -- each number of a path has the next one as its parent, and the last has none
 abbrev pub Climbs : List ℕ → List ℕ → Type 0

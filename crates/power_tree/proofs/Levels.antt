@@ -1,9 +1,9 @@
 -- How the tree grows: what a turn adds, and that every number's successor and double come at most one level further down.
-use Rattle.std.proofs.Common.{◌≡◌, ℕ, zero, suc, ◌+◌, ◌-◌, ◌*◌, ◌/◌, ◌%◌, ◌^◌, ◌<◌, ◌≤◌, Bool, true, false, cond, eqb, leb, ◌⊎◌, List, [], ◌∷◌, ◌++◌, length, sym, refl, ap, ◌∙◌, subst, inl, inr, ⊎_elim, pow-suc, arith, pow_pos, pow_mono}
+use Rattle.std.proofs.Common.{◌≡◌, ℕ, zero, suc, ◌+◌, ◌-◌, ◌/◌, ◌%◌, ◌^◌, ◌<◌, ◌≤◌, true, false, eqb, leb, ◌⊎◌, List, [], ◌∷◌, length, sym, refl, ap, ◌∙◌, subst, inl, inr, ⊎_elim, arith, pow_mono}
 use native.Mathlib.Nat.{div-eq_of_lt}
 use Rattle.std.proofs.lemmas.Nat.{mod_below}
 use Rattle.std.proofs.lemmas.Bool.{eq-eqb, ne_eqb, le-leb, lt-leb, cases_eq, cases_lt}
-use Rattle.power_tree.specs.Tree.{Level, level, is_free, hung, hung_all, first_of, turned, grown_by, next_level, first_level}
+use Rattle.power_tree.specs.Tree.{Level, level, hung, hung_all, first_of, turned, grown_by, next_level, first_level}
 use Rattle.power_tree.specs.Rule.{level_at, Heads, InTree}
 use Rattle.power_tree.proofs.Bits.{In, in_same, in_other}
 

@@ -1,20 +1,19 @@
 -- The plan of the tree method: that it is a chain, and no longer than that of the left to right method.
-use Rattle.std.proofs.Common.{◌≡◌, ℕ, zero, suc, ◌+◌, ◌-◌, ◌*◌, ◌/◌, ◌%◌, ◌^◌, ◌<◌, ◌≤◌, Bool, true, false, cond, eqb, ◌⊎◌, List, [], ◌∷◌, ◌++◌, length, sym, refl, ap, ◌∙◌, subst, inl, inr, ⊎_elim, div-one, arith}
+use Rattle.std.proofs.Common.{◌≡◌, ℕ, zero, suc, ◌+◌, ◌-◌, ◌/◌, ◌^◌, ◌<◌, ◌≤◌, true, false, eqb, ◌⊎◌, List, [], ◌∷◌, length, sym, refl, ap, ◌∙◌, subst, inl, inr, ⊎_elim, div-one, arith}
 use lib.Count.{ones, ones_step, ones-ones, ones-le}
 use lib.Pow.{shr_le}
 use Rattle.std.proofs.lemmas.Nat.{mod_below}
 use Rattle.std.proofs.lemmas.List.{length_push}
 use Rattle.std.proofs.lemmas.Bool.{eq-eqb, ne_eqb, cases_eq}
-use Rattle.plans.specs.declared.step.Step.{Step}
 use Rattle.plans.specs.Chain.{value_at, Chain}
 use Rattle.planning.specs.Bits.{top, bit_at}
 use Rattle.planning.specs.Planning.{step}
 use Rattle.power_tree.specs.Tree.{Level, first_of, next_level, first_level, path_in, or_else, path_from, tree_path, summand_in, steps_of, tree_plan}
 use Rattle.power_tree.specs.Rule.{level_at, Heads}
 use Rattle.planning.proofs.Powers.{top_is, halves, top_mono, top_one}
-use Rattle.planning.proofs.Pushing.{Grown, Ends, Pushed, grown_none, push, chain_from_ends}
+use Rattle.planning.proofs.Pushing.{Grown, grown_none, push, chain_from_ends}
 use Rattle.power_tree.proofs.Bits.{In}
-use Rattle.power_tree.proofs.Levels.{Among, Each, Made, Good, good_positive, Reached, level_next, level_first, first_in, each_level, placed, next_further, double_further}
+use Rattle.power_tree.proofs.Levels.{Among, Each, Good, Reached, level_next, level_first, first_in, each_level, placed, next_further, double_further}
 
 -- a path's steps: they are a chain under way, which has each number of the path
 pub record Climbed (n : ℕ) (p : List ℕ) : Type 0 where

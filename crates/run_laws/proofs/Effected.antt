@@ -1,5 +1,5 @@
 -- What a run, and a call that is none, owe to the law. Assumes nothing.
-use Rattle.std.proofs.Common.{◌≡◌, ℕ, zero, suc, ◌+◌, ◌<◌, ◌≤◌, Bool, true, false, cond, leb, ◌⊎◌, List, [], ◌∷◌, ◌++◌, length, is_some, Some, None, Option, sym, refl, ap, ◌∙◌, subst, inl, inr, arith, length-set, leb-false}
+use Rattle.std.proofs.Common.{◌≡◌, ℕ, zero, suc, Bool, true, false, leb, ◌⊎◌, List, [], ◌∷◌, ◌++◌, length, is_some, Some, None, Option, sym, refl, ap, ◌∙◌, subst, inl, inr, arith, length-set, leb-false}
 use Rattle.std.specs.Option.{option_map}
 use Rattle.refusals.specs.declared.refusal.Refusal.{Refusal}
 use Rattle.refusals.specs.Faults.{first, unless}
@@ -7,10 +7,9 @@ use Rattle.plans.specs.declared.step.Step.{Step}
 use Rattle.placing.specs.Placing.{need}
 use Rattle.placing.proofs.Fits.{fits_exactly}
 use Rattle.kinds.specs.Kinds.{Meaning}
-use Rattle.kinds.specs.Powers.{power}
 use Rattle.units.specs.Units.{State, SameShape, loaded}
 use Rattle.run_laws.specs.Runs.{run_fault, cell_of, after_steps, after_run, Success}
-use Rattle.run_laws.specs.Effects.{Asked, Event, if_native, asked, Cause, Powers, Effect}
+use Rattle.run_laws.specs.Effects.{Asked, asked, Cause, Powers, Effect}
 use Rattle.run_laws.proofs.Passed.{Passed, passed}
 
 nothing_is_something : {A X : Type 0} (a : A) → ◌≡◌ {A = Option A} None (Some a) → X

@@ -1,9 +1,9 @@
 -- What follows for a list of calls from what each of them did. Assumes nothing.
-use Rattle.std.proofs.Common.{◌≡◌, ℕ, ◌+◌, ◌-◌, ◌<◌, List, [], ◌∷◌, ◌++◌, length, Some, None, Option, sym, refl, ap, ◌∙◌, subst, arith}
+use Rattle.std.proofs.Common.{◌≡◌, ℕ, ◌+◌, ◌-◌, List, [], ◌∷◌, ◌++◌, length, None, sym, refl, ◌∙◌, subst, arith}
 use Rattle.placing.specs.Placing.{Exactly}
 use Rattle.kinds.specs.Kinds.{Meaning}
 use Rattle.units.specs.Units.{State, SameShape}
-use Rattle.run_laws.specs.Effects.{Asked, Event, cost_of, spent, Cause, Split, Effect, InTurn, Law}
+use Rattle.run_laws.specs.Effects.{Event, spent, Cause, Split, Effect, InTurn, Law}
 
 module _ {V : Type 0} (m : Meaning V) where
   -- what a list of calls keeps, and what it costs

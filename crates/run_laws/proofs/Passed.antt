@@ -1,5 +1,5 @@
 -- When a run is not refused, and what it then comes to. Assumes nothing.
-use Rattle.std.proofs.Common.{◌≡◌, ℕ, ◌+◌, ◌≤◌, Bool, true, false, leb, List, length, get_or, Some, None, Ok, Err, Option, Result, sym, refl, ap, ◌∙◌, subst, arith, length-set, get_or-set_same, lt-ltb, le-leb, leb-true}
+use Rattle.std.proofs.Common.{◌≡◌, ℕ, ◌+◌, ◌≤◌, true, List, length, get_or, Some, None, Ok, Err, Option, Result, sym, refl, ap, ◌∙◌, subst, arith, length-set, get_or-set_same, lt-ltb, le-leb, leb-true}
 use Rattle.refusals.specs.declared.refusal.Refusal.{Refusal}
 use Rattle.refusals.specs.Faults.{verdict, settle}
 use Rattle.refusals.proofs.Firsts.{first_none, unless_true}
@@ -15,7 +15,7 @@ use Rattle.kinds.proofs.Powers.{Laws}
 use Rattle.units.specs.Units.{State, load_fault, loaded}
 use Rattle.run_laws.specs.Traces.{Traces}
 use Rattle.run_laws.specs.Runs.{run_fault, cell_of, after_steps, after_run, last_value, Ready, Begun, HandsOut, Success}
-use Rattle.run_laws.proofs.Sitting.{Sits, sits_end}
+use Rattle.run_laws.proofs.Sitting.{sits_end}
 use Rattle.run_laws.proofs.Traced.{traced}
 use Rattle.run_laws.proofs.Turns.{not_refused}
 

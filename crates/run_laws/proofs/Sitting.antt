@@ -1,16 +1,15 @@
 -- Where the powers lie while the steps of a plan are made, on any placing. Assumes nothing.
-use Rattle.std.proofs.Common.{◌≡◌, ℕ, zero, suc, ◌+◌, ◌-◌, ◌<◌, ◌≤◌, Bool, true, ◌||◌, eqb, ◌⊎◌, List, [], ◌∷◌, length, get_or, set, Some, None, Ok, Err, Option, Result, sym, refl, ap, ◌∙◌, subst, inl, inr, le_of_suc-le-suc, not-suc-le-zero, add-one, arith, length-set, lt-ltb, eq-eqb}
+use Rattle.std.proofs.Common.{◌≡◌, ℕ, zero, suc, ◌+◌, ◌-◌, ◌<◌, ◌≤◌, true, eqb, List, [], ◌∷◌, length, get_or, set, Some, None, Ok, Option, sym, refl, ap, ◌∙◌, subst, inl, le_of_suc-le-suc, not-suc-le-zero, add-one, arith, length-set, lt-ltb, eq-eqb}
 use Rattle.std.proofs.lemmas.Bool.{or_left, or_right}
-use Rattle.refusals.specs.declared.refusal.Refusal.{Refusal}
 use Rattle.plans.specs.declared.step.Step.{Step}
 use Rattle.plans.specs.Chain.{no_step, step_at, value_at, Chain}
 use Rattle.plans.proofs.Values.{value_suc}
-use Rattle.placing.specs.Placing.{cites, Placing}
+use Rattle.placing.specs.Placing.{cites}
 use Rattle.placing.proofs.Run.{Stored, stored_read, stored_more}
 use Rattle.kinds.specs.Kinds.{Meaning}
 use Rattle.kinds.specs.Powers.{power}
 use Rattle.kinds.proofs.Powers.{Laws, power_add}
-use Rattle.units.specs.Units.{State, reading, multiply_fault, multiplied, both}
+use Rattle.units.specs.Units.{State, reading, multiply_fault, both}
 use Rattle.run_laws.specs.Runs.{cell_of, stepped, after_steps, Ready}
 
 pub cites_first : (x : Step) → cites x x.j ≡ true

@@ -1,5 +1,5 @@
 -- Records worked in sums. Assumes nothing.
-use Rattle.std.specs.Prelude.{◌≡◌, ℕ, ◌+◌, List, [], ◌∷◌, ◌++◌, map, length, replicate, Option, slice_index, slice_set}
+use Rattle.std.specs.Prelude.{◌≡◌, ℕ, ◌+◌, List, [], ◌∷◌, ◌++◌, map, replicate, Option, slice_index, slice_set}
 use Rattle.std.specs.Option.{option_map}
 use Rattle.units.specs.declared.record.Record.{Record}
 use Rattle.plans.specs.declared.step.Step.{Step}

@@ -1,5 +1,5 @@
 -- What the call of the tree method has written: the path that was climbed, the answer, and the two tables.
-use Rattle.std.proofs.Common.{◌≡◌, ℕ, ◌+◌, ◌-◌, ◌<◌, ◌≤◌, true, false, cond, leb, List, [], ◌++◌, length, get_or, take, drop, Ok, Err, Result, sym, refl, ap, ◌∙◌, subst, arith, length-take}
+use Rattle.std.proofs.Common.{◌≡◌, ℕ, ◌-◌, ◌<◌, ◌≤◌, true, false, cond, leb, List, [], ◌++◌, length, get_or, take, drop, Ok, Err, sym, ap, ◌∙◌, arith, length-take}
 use lib.ListN.{get_or-append}
 use Rattle.std.proofs.lemmas.List.{length-drop, take_all, take_at, drop_at}
 use Rattle.std.proofs.lemmas.Bool.{le-leb, lt-leb}
@@ -7,7 +7,6 @@ use Rattle.refusals.specs.declared.refusal.Refusal.{Refusal}
 use Rattle.refusals.specs.declared.refusal.Refusal.TheVariants.{TableShort}
 use Rattle.plans.specs.declared.step.Step.{Step}
 use Rattle.plans.specs.Admission.{then}
-use Rattle.plans.specs.Chain.{Chain}
 use Rattle.planning.specs.Planning.{request, length_or}
 use Rattle.power_tree.specs.Growth.{path_onto, grown_parents}
 use Rattle.power_tree.specs.Tree.{turned, tree_path, steps_of, tree_plan}

@@ -1,11 +1,11 @@
 -- The trimmed plan is a chain for the same exponent, and is trimmed already. Assumes nothing.
-use Rattle.std.proofs.Common.{◌≡◌, ℕ, zero, suc, ◌+◌, ◌-◌, ◌<◌, ◌≤◌, Bool, true, false, cond, ◌⊎◌, List, [], ◌∷◌, length, drop, sym, refl, ap, ◌∙◌, subst, inl, inr, ⊎_elim, add-one, arith, drop-cons}
+use Rattle.std.proofs.Common.{◌≡◌, ℕ, zero, suc, ◌+◌, ◌<◌, ◌≤◌, true, false, List, [], ◌∷◌, length, drop, sym, refl, ap, ◌∙◌, subst, inl, inr, ⊎_elim, add-one, arith, drop-cons}
 use lib.Seq.{drop-length}
 use Rattle.std.proofs.lemmas.Bool.{cases_lt, cases_Bool}
 use Rattle.plans.specs.declared.step.Step.{Step}
 use Rattle.plans.specs.Chain.{no_step, step_at, Chain}
 use Rattle.planning.specs.Planning.{step}
-use Rattle.trimming.specs.Needed.{has, needed_for, needed_of, needed, Cited}
+use Rattle.trimming.specs.Needed.{has, needed_of, needed, Cited}
 use Rattle.trimming.specs.Trim.{rank, renumbered, keep, trimmed}
 use Rattle.trimming.proofs.Needing.{Citing, needed_last, needed_cases, cited_needed, has_one}
 use Rattle.trimming.proofs.Ranks.{rank_one, rank_none, rank_room, left, left_one, left_end, keep_length}

@@ -1,10 +1,10 @@
 -- What the needed values are. Assumes nothing.
-use Rattle.std.proofs.Common.{◌≡◌, ℕ, zero, suc, ◌+◌, ◌-◌, ◌<◌, ◌≤◌, Bool, true, false, cond, ◌||◌, eqb, ◌⊎◌, List, [], ◌∷◌, length, drop, sym, refl, ap, ◌∙◌, subst, inl, inr, ⊎_elim, add-one, arith, drop-cons}
+use Rattle.std.proofs.Common.{◌≡◌, ℕ, zero, suc, ◌+◌, ◌<◌, ◌≤◌, Bool, true, false, cond, ◌||◌, eqb, ◌⊎◌, List, [], ◌∷◌, length, drop, sym, refl, ap, ◌∙◌, inl, inr, ⊎_elim, add-one, arith, drop-cons}
 use lib.Seq.{drop-length}
 use Rattle.std.proofs.lemmas.Bool.{eq-eqb, eqb-true, cases_Bool, or_cases, or_left, or_right, true≢false}
 use Rattle.plans.specs.declared.step.Step.{Step}
 use Rattle.plans.specs.Chain.{no_step, step_at, Cites}
-use Rattle.trimming.specs.Needed.{has, with_cited, needed_after, needed_for, needed_of, needed, Cited, LastOrCited, NeededLaw}
+use Rattle.trimming.specs.Needed.{has, with_cited, needed_after, needed_for, needed, Cited, NeededLaw}
 
 -- the values that are needed for the roots by the steps after number i
 abbrev pub after : List ℕ → List Step → ℕ → List ℕ

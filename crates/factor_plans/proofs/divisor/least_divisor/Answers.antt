@@ -1,4 +1,4 @@
-use Rattle.std.proofs.Common.{◌<◌, arith}
+use Rattle.std.proofs.Common.{arith}
 use Rattle.factor_plans.specs.Divisors.{Least}
 use Rattle.factor_plans.proofs.Divisors.{none_more, below_root, least_past, least_some}
 use Rattle.factor_plans.proofs.divisor.least_divisor.Goals as goal

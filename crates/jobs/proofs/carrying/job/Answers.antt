@@ -1,11 +1,11 @@
-use Rattle.std.proofs.Common.{◌≡◌, ℕ, ◌-◌, ◌≤◌, List, length, take, Ok, Err, Result, refl, ap, ◌∙◌, subst, rules}
+use Rattle.std.proofs.Common.{◌≡◌, ◌-◌, ◌≤◌, List, length, take, Ok, Result, refl, ap, ◌∙◌, subst, rules}
 use Rattle.refusals.specs.declared.refusal.Refusal.{Refusal}
 use Rattle.refusals.proofs.Answered.{exit_is, unchanged_err}
 use Rattle.plans.specs.declared.step.Step.{Step}
 use Rattle.sheets.specs.Reading.{read_sheet, counted, filled}
 use Rattle.runs.specs.Answers.{run_answer, Ran}
 use Rattle.jobs.specs.declared.job_refusal.JobRefusal.{JobRefusal}
-use Rattle.jobs.specs.declared.stage.Stage.TheVariants.{Reading, Admission, Running}
+use Rattle.jobs.specs.declared.stage.Stage.TheVariants.{Admission, Running}
 use Rattle.jobs.specs.Jobs.{job_plan}
 use Rattle.jobs.proofs.Stages.{read_left, read_is, read_fits, on_ok, unread_answer, unread_after, stopped_answer, stopped_after, worked_answer, worked_after, as_asked, kept_on}
 use Rattle.jobs.proofs.Carried.{job_answered, jobbed}

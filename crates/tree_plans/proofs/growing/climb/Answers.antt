@@ -1,4 +1,4 @@
-use Rattle.std.proofs.Common.{◌≡◌, ℕ, ◌+◌, ◌-◌, ◌<◌, List, [], ◌∷◌, length, drop, set, sym, ap, ◌∙◌, inr, arith, length-set}
+use Rattle.std.proofs.Common.{◌≡◌, ℕ, ◌+◌, ◌-◌, ◌<◌, List, ◌∷◌, length, drop, set, sym, ap, ◌∙◌, inr, arith, length-set}
 use lib.Seq.{drop-length}
 use Rattle.std.proofs.lemmas.List.{drop-set}
 use Rattle.power_tree.specs.Growth.{path_onto}

@@ -1,4 +1,4 @@
-use Rattle.std.proofs.Common.{◌≡◌, ℕ, ◌+◌, ◌-◌, List, [], ◌∷◌, replicate, sym, ap, ◌∙◌, arith, rules}
+use Rattle.std.proofs.Common.{◌≡◌, ℕ, ◌+◌, ◌-◌, List, [], ◌∷◌, replicate, ap, ◌∙◌, arith, rules}
 use Rattle.power_tree.specs.Growth.{Growth, growth, stage, stage_at}
 use Rattle.power_tree.proofs.Turns.{stage_first, stage_more, stage_space, stage_longer, stage_last}
 use Rattle.tree_plans.specs.Order.{listed}

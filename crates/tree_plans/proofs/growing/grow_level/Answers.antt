@@ -1,4 +1,4 @@
-use Rattle.std.proofs.Common.{◌≡◌, ℕ, ◌-◌, ◌≤◌, length, sym, ap, ◌∙◌, arith}
+use Rattle.std.proofs.Common.{ℕ, ◌-◌, ◌≤◌, length, sym, ap, ◌∙◌, arith}
 use Rattle.power_tree.specs.Growth.{Growth, growth, turns}
 use Rattle.power_tree.proofs.Turns.{level_more, level_room, level_longer, turns_none}
 use Rattle.tree_plans.specs.Order.{listed}

@@ -1,4 +1,4 @@
-use Rattle.std.proofs.Common.{◌≡◌, ℕ, ◌-◌, ◌≤◌, List, [], length, take, drop, ap, arith}
+use Rattle.std.proofs.Common.{◌≡◌, ℕ, ◌-◌, List, [], take, drop, arith}
 use Rattle.power_tree.specs.Tree.{turned, tree_path}
 use Rattle.tree_plans.proofs.Planned.{climbed, path_length, path_most, count_plan, table_plan}
 use Rattle.tree_plans.proofs.method.write_plan.Goals as goal

@@ -1,4 +1,4 @@
-use Rattle.std.proofs.Common.{◌≡◌, ◌≤◌, [], length, take}
+use Rattle.std.proofs.Common.{◌≡◌, [], take}
 use Rattle.power_tree.specs.Tree.{turned, summand_in}
 use Rattle.tree_plans.proofs.writing.summand_place.Given as goal
 

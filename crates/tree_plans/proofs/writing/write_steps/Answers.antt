@@ -1,5 +1,4 @@
-use Rattle.std.proofs.Common.{◌≡◌, ℕ, ◌+◌, ◌-◌, ◌<◌, ◌≤◌, List, [], ◌∷◌, length, get_or, take, set, sym, ap, ◌∙◌, subst, arith}
-use Rattle.plans.specs.declared.step.Step.{Step}
+use Rattle.std.proofs.Common.{◌≡◌, ℕ, ◌+◌, ◌-◌, [], length, get_or, take, set, sym, ◌∙◌, subst, arith}
 use Rattle.planning.specs.Planning.{step}
 use Rattle.planning.proofs.Filling.{Filled, filled_none, filled_more, filled_all}
 use Rattle.power_tree.specs.Tree.{turned, summand_in, steps_of}

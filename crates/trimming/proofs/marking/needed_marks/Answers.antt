@@ -1,4 +1,4 @@
-use Rattle.std.proofs.Common.{◌≡◌, ℕ, ◌-◌, ◌<◌, List, [], ◌∷◌, length, sym, ap, ◌∙◌, subst, arith}
+use Rattle.std.proofs.Common.{◌≡◌, ℕ, ◌-◌, ◌<◌, List, [], ◌∷◌, length, ap, ◌∙◌, arith}
 use Rattle.trimming.specs.Needed.{has}
 use Rattle.trimming.proofs.Needing.{after, after_all}
 use Rattle.trimming.proofs.Marks.{marked_start, marked_yes, marked_no}

@@ -1,11 +1,11 @@
-use Rattle.std.proofs.Common.{◌≡◌, ℕ, ◌+◌, ◌<◌, ◌≤◌, List, [], ◌∷◌, ◌++◌, length, get_or, drop, set, sym, refl, ap, ◌∙◌, subst, arith}
+use Rattle.std.proofs.Common.{ℕ, ◌+◌, ◌<◌, ◌≤◌, List, ◌++◌, length, drop, sym, refl, ap, ◌∙◌, subst, arith}
 use Rattle.plans.specs.declared.step.Step.{Step}
 use Rattle.plans.specs.Chain.{Chain}
 use Rattle.trimming.specs.Needed.{needed_of}
 use Rattle.trimming.specs.Trim.{rank, trimmed, trim_answer}
 use Rattle.trimming.proofs.Needing.{needed_law}
 use Rattle.trimming.proofs.Ranks.{rank_room}
-use Rattle.trimming.proofs.Marks.{Writing, writing_none, writing_yes, writing_no, writing_all, trim_short, trim_fits}
+use Rattle.trimming.proofs.Marks.{writing_none, writing_yes, writing_no, writing_all, trim_short, trim_fits}
 use Rattle.trimming.proofs.Again.{trimmed_chain, trimmed_again}
 use Rattle.trimming.proofs.trimmer.trim.Goals as goal
 use Rattle.trimming.proofs.trimmer.trim.Goals.{then-marks-i, else-marks-i}

@@ -1,4 +1,4 @@
-use Rattle.std.proofs.Common.{◌≡◌, ◌<◌, length, take, sym, arith, length-take-le, get_or-take}
+use Rattle.std.proofs.Common.{sym, arith, length-take-le, get_or-take}
 use Rattle.tree_plans.proofs.order.Order.number.Goals as goal
 
 pub returns : goal.returns

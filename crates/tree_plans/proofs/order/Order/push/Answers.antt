@@ -1,4 +1,4 @@
-use Rattle.std.proofs.Common.{length, take, arith, length-take-le}
+use Rattle.std.proofs.Common.{arith, length-take-le}
 use Rattle.std.proofs.lemmas.List.{take_more_set}
 use Rattle.tree_plans.proofs.order.Order.push.Goals as goal
 
