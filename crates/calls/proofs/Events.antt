@@ -13,14 +13,13 @@ use Rattle.kinds.specs.Kinds.{Meaning}
 use Rattle.kinds.specs.Powers.{power}
 use Rattle.units.specs.Units.{State, load_fault, loaded}
 use Rattle.run_laws.specs.Runs.{run_fault}
-use Rattle.run_laws.specs.Effects.{Event, asked, Effect, InTurn, Law}
+use Rattle.run_laws.specs.Effects.{asked, Effect, InTurn, Law}
 use Rattle.run_laws.proofs.Effected.{accepted_effect, refused_effect, plain_effect, still_effect}
 use Rattle.run_laws.proofs.Lawful.{lawful}
 use Rattle.runs.specs.declared.raised.Raised.{Raised}
 use Rattle.runs.specs.Answers.{run_answer, Ran}
 use Rattle.jobs.specs.declared.stage.Stage.{Stage}
 use Rattle.jobs.specs.declared.stage.Stage.TheVariants.{Running}
-use Rattle.jobs.specs.declared.job_refusal.JobRefusal.{JobRefusal}
 use Rattle.calls.specs.declared.call.Call.{Call}
 use Rattle.calls.specs.declared.act.Act.{Act}
 use Rattle.calls.specs.declared.act.Act.TheVariants.{Load, Read, Run, Job}

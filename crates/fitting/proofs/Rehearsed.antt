@@ -1,17 +1,15 @@
 -- A run in whole numbers from 1, and the sums that its records make. Assumes nothing.
-use Rattle.std.proofs.Common.{◌≡◌, ℕ, suc, ◌+◌, ◌^◌, ◌<◌, ◌≤◌, min, Bool, true, leb, List, [], ◌∷◌, ◌++◌, map, length, get_or, take, drop, set, replicate, Some, None, Option, sym, refl, ap, ◌∙◌, subst, ⊎_elim, arith, lit<, length-take, le-leb}
+use Rattle.std.proofs.Common.{◌≡◌, ℕ, suc, ◌^◌, ◌<◌, ◌≤◌, leb, List, [], ◌∷◌, ◌++◌, map, length, get_or, take, drop, set, replicate, Some, None, Option, sym, refl, ap, ◌∙◌, subst, ⊎_elim, arith, length-take, le-leb}
 use lib.ListN.{length-map}
 use Rattle.std.proofs.lemmas.List.{get_or_past}
 use Rattle.std.proofs.lemmas.Bool.{cases_lt}
 use Rattle.std.specs.Option.{option_map}
-use Rattle.refusals.specs.declared.refusal.Refusal.{Refusal}
-use Rattle.refusals.specs.declared.refusal.Refusal.TheVariants.{NeedAbove, AllowanceBelow}
+use Rattle.refusals.specs.declared.refusal.Refusal.TheVariants.{AllowanceBelow}
 use Rattle.refusals.specs.Faults.{first, unless}
 use Rattle.refusals.proofs.Firsts.{unless_none}
 use Rattle.plans.specs.declared.step.Step.{Step}
-use Rattle.plans.specs.Chain.{Chain, value_at, step_at}
+use Rattle.plans.specs.Chain.{Chain, step_at}
 use Rattle.plans.proofs.Values.{value_suc}
-use Rattle.placing.specs.Placing.{need}
 use Rattle.kinds.specs.declared.counts.Count.{Count}
 use Rattle.kinds.specs.Counting.{counting}
 use Rattle.units.specs.declared.record.Record.{Record}

@@ -1,5 +1,5 @@
 -- A sheet fitted, stage by stage. Assumes nothing.
-use Rattle.std.proofs.Common.{◌≡◌, ℕ, ◌+◌, ◌-◌, ◌≤◌, List, [], ◌∷◌, ◌++◌, length, take, drop, Some, None, Ok, Err, Option, Result, sym, refl, ap, ◌∙◌, subst, arith, length-append, MatchResult}
+use Rattle.std.proofs.Common.{◌≡◌, ℕ, ◌-◌, ◌≤◌, List, length, take, drop, Some, None, Ok, Err, Option, Result, sym, refl, ap, ◌∙◌, subst, arith, length-append, MatchResult}
 use native.Mathlib.Nat.{sub-zero}
 use lib.Seq.{take-append_seam}
 use Rattle.refusals.specs.declared.refusal.Refusal.{Refusal}

@@ -1,5 +1,5 @@
 -- Records worked in sums, one at a time. Assumes nothing.
-use Rattle.std.proofs.Common.{◌≡◌, ℕ, suc, ◌+◌, ◌-◌, ◌^◌, ◌<◌, ◌≤◌, min, List, [], ◌∷◌, ◌++◌, length, get_or, take, drop, set, Some, None, Option, sym, refl, ap, ◌∙◌, subst, append_assoc, append-nil, add-one, arith, take-append-drop, length-take, drop-cons, get_or-take, drop-drop, take-suc-set, drop-set-lt}
+use Rattle.std.proofs.Common.{◌≡◌, ℕ, suc, ◌+◌, ◌-◌, ◌<◌, ◌≤◌, List, [], ◌∷◌, ◌++◌, length, get_or, take, drop, set, Some, None, sym, refl, ap, ◌∙◌, subst, append_assoc, append-nil, add-one, arith, take-append-drop, length-take, drop-cons, get_or-take, drop-drop, take-suc-set, drop-set-lt}
 use lib.Seq.{drop-length, get_or-append_seam}
 use Rattle.units.specs.declared.record.Record.{Record}
 use Rattle.run_sheet.specs.Sheets.{numbered}

@@ -29,8 +29,7 @@ pub fn describe(refusal: Refusal) -> &'static str
         Refusal::TableShort(_) => "a table is too short, and so many places are wanted",
         Refusal::CellEmpty(_) => "this cell is empty",
         Refusal::AllowanceSpent => "the allowance is 0",
-        Refusal::NeedAbove(_) =>
-            "the trimmed plan needs so many cells, and the card or its rehearsal has fewer",
+        Refusal::NeedAbove(_) => "the trimmed plan needs so many cells, and the card has fewer",
         Refusal::AllowanceBelow(_) =>
             "the trimmed plan has so many steps, and the allowance is less",
     }

@@ -1,5 +1,5 @@
 -- The plan that a request asks for, by the method that was chosen.
-use Rattle.std.proofs.Common.{◌≡◌, ℕ, ◌≤◌, Bool, true, false, cond, leb, List, [], length, take, drop, IfOk, Some, Ok, Err, Option, Result, sym, refl, ap, ◌∙◌}
+use Rattle.std.proofs.Common.{◌≡◌, ℕ, ◌≤◌, Bool, true, false, cond, leb, List, length, take, drop, IfOk, Some, Ok, Err, Option, Result, sym, refl, ap, ◌∙◌}
 use Rattle.std.proofs.lemmas.List.{take_at}
 use Rattle.std.proofs.lemmas.Bool.{le-leb}
 use Rattle.refusals.specs.declared.refusal.Refusal.{Refusal}

@@ -1,5 +1,5 @@
 -- What the plan program prints, from the sheet or the refusal that was written.
-use Rattle.std.proofs.Common.{◌≡◌, ℕ, suc, ◌+◌, ◌-◌, ◌*◌, ◌^◌, ◌<◌, ◌≤◌, Bool, true, false, cond, eqb, leb, List, [], ◌∷◌, ◌++◌, length, get_or, take, drop, set, IfErr, Some, None, Ok, Err, Decides, Option, Result, sym, refl, ap, ◌∙◌, subst, arith, lit<, drop-cons}
+use Rattle.std.proofs.Common.{◌≡◌, ℕ, ◌+◌, ◌-◌, ◌*◌, ◌^◌, ◌<◌, ◌≤◌, Bool, true, false, cond, eqb, leb, List, [], ◌∷◌, ◌++◌, length, get_or, take, drop, set, IfErr, Some, None, Ok, Err, Decides, Option, Result, sym, refl, ap, ◌∙◌, subst, arith, lit<, drop-cons}
 use borrow.Rule.Slice.PartMut.{put_mid, post_of}
 use Rattle.std.proofs.lemmas.List.{append_assoc, length-append, length-drop, length-take-le, drop_at, drop-drop, set_at}
 use Rattle.std.proofs.lemmas.Bool.{le-leb, false≢true}
@@ -10,7 +10,7 @@ use Rattle.fields.specs.Field.{field, field_value, put}
 use Rattle.plans.specs.declared.step.Step.{Step}
 use Rattle.plans.specs.Chain.{Chain}
 use Rattle.planning.specs.Planning.{is_exponent}
-use Rattle.sheets.specs.Sheets.{sheet, sheet_bytes, wrote, written}
+use Rattle.sheets.specs.Sheets.{sheet, wrote, written}
 use Rattle.sheets.proofs.Lines.{put_next}
 use Rattle.fields.proofs.Inverse.{length_field, digits_within, put_field}
 use Rattle.sheets.proofs.Reread.{length_sheet, chain_writable}

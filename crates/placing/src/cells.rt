@@ -1,6 +1,6 @@
 //! The supplied placing: each value in turn goes into the lowest cell that is free.
 ghost use Rattle.std.specs.Prelude.{◌≡◌, ℕ, ◌+◌, ◌<◌, ◌≤◌, length, take, slice_index};
-ghost use Rattle.placing.specs.Placing.{past, need};
+ghost use Rattle.placing.specs.Placing.{past, need, Supplied};
 ghost use Rattle.placing.specs.Supply.{supplied_cells};
 
 use crate::citations::{last_citations, past};
@@ -31,7 +31,8 @@ fn free_cell(until: &[u8], s: usize) -> usize
 // Puts the values into cells; a cell that none has used yet is taken only if those in use are all kept.
 pub(crate) fn arrange(plan: &Plan<'_>) -> Arrangement
     ensures used { result.used ≡ need plan.now.steps.now }
-    ensures cells { take (length plan.now.steps.now + 1) result.cells ≡ supplied_cells plan.now.steps.now }
+    ensures cells { Supplied plan.now.steps.now (take (length plan.now.steps.now + 1) result.cells) }
+    ensures named { take (length plan.now.steps.now + 1) result.cells ≡ supplied_cells plan.now.steps.now }
 {
     let last = last_citations(plan);
     let mut until = [0u8; MOST_VALUES];

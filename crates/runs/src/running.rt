@@ -1,6 +1,7 @@
 //! A run: the base is loaded, the plan's multiplications are made in its order, and the last value is handed out.
-ghost use Rattle.std.specs.Prelude.{◌≡◌, ◌+◌, ◌<◌, ◌++◌, length, drop, OnOk};
+ghost use Rattle.std.specs.Prelude.{◌≡◌, ◌+◌, ◌<◌, ◌++◌, length, take, drop, OnOk};
 ghost use Rattle.refusals.specs.Faults.{verdict, Unchanged};
+ghost use Rattle.placing.specs.Placing.{Supplied};
 ghost use Rattle.placing.specs.Supply.{supplied_cells};
 ghost use Rattle.plans.specs.Chain.{step_at, Cites};
 ghost use Rattle.run_laws.specs.Runs.{run_fault, step_answer, step_after, after_steps, Begun, HandsOut};
@@ -21,7 +22,8 @@ fn check_run<U: Unit>(
     places: &mut [u8; MOST_VALUES],
 ) -> Result<(), Refusal>
     ensures answer { result ≡ verdict (run_fault (U.Kind.kind unit.now) (U.Unit.state unit.now) plan.now.steps.now base) }
-    ensures placed { OnOk result (places.new ≡ supplied_cells plan.now.steps.now ++ drop (length plan.now.steps.now + 1) places.old) }
+    ensures placed { OnOk result (Supplied plan.now.steps.now (take (length plan.now.steps.now + 1) places.new)) }
+    ensures named { OnOk result (places.new ≡ supplied_cells plan.now.steps.now ++ drop (length plan.now.steps.now + 1) places.old) }
 {
     if !unit.is_native(base) {
         return Err(Refusal::NotNative);

@@ -1,4 +1,4 @@
-use Rattle.std.proofs.Common.{◌≡◌, sym, ap, ◌∙◌}
+use Rattle.std.proofs.Common.{sym, ap, ◌∙◌}
 use Rattle.plans.specs.Admission.{admission}
 use Rattle.bench_exports.proofs.Planned.{placed_long}
 use Rattle.bench_exports.proofs.longest.place_within.Goals as goal

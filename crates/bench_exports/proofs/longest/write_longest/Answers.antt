@@ -1,4 +1,4 @@
-use Rattle.std.proofs.Common.{◌≡◌, ap, arith}
+use Rattle.std.proofs.Common.{arith}
 use Rattle.bench_exports.proofs.Planned.{long_turn, long_done}
 use Rattle.bench_exports.proofs.longest.write_longest.Goals as goal
 

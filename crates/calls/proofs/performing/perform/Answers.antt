@@ -1,5 +1,4 @@
-use Rattle.std.proofs.Common.{◌≡◌, ℕ, ◌<◌, ◌≤◌, List, length, get_or, take, drop, sym, refl, ap, ◌∙◌, subst, arith, take_all, rules}
-use Rattle.kinds.specs.Kinds.{Meaning}
+use Rattle.std.proofs.Common.{◌≡◌, ℕ, ◌<◌, List, length, take, drop, refl, ◌∙◌, subst, arith, take_all, rules}
 use Rattle.calls.specs.declared.call.Call.{Call}
 use Rattle.calls.specs.Lists.{bench, Performed, turns}
 use Rattle.calls.proofs.Events.{list_short, list_made, performed_more, drop_more, law_of}

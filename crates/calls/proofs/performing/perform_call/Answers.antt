@@ -1,4 +1,4 @@
-use Rattle.std.proofs.Common.{◌≡◌, List, length, refl, rules}
+use Rattle.std.proofs.Common.{List, length, refl, rules}
 use Rattle.plans.specs.declared.step.Step.{Step}
 use Rattle.calls.specs.declared.act.Answer.TheVariants.{Loaded, Got, Power, Carried}
 use Rattle.calls.specs.Lists.{bench, Made}

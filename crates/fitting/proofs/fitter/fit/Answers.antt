@@ -1,8 +1,8 @@
-use Rattle.std.proofs.Common.{◌≡◌, ℕ, ◌-◌, ◌≤◌, List, length, take, Ok, Err, Result, sym, refl, ap, ◌∙◌, subst, arith, rules}
+use Rattle.std.proofs.Common.{◌≡◌, ◌-◌, ◌≤◌, List, length, take, Ok, Result, refl, ap, ◌∙◌, arith, rules}
 use Rattle.refusals.specs.declared.refusal.Refusal.{Refusal}
 use Rattle.plans.specs.declared.step.Step.{Step}
 use Rattle.sheets.specs.Reading.{read_sheet, counted, filled}
-use Rattle.jobs.specs.declared.stage.Stage.TheVariants.{Reading, Admission, Running}
+use Rattle.jobs.specs.declared.stage.Stage.TheVariants.{Admission, Running}
 use Rattle.refusals.proofs.Answered.{exit_is, unchanged_err}
 use Rattle.fitting.proofs.Stages.{read_is, read_fits, on_ok, unread_answer, unread_after, unread_tables, unread_cells, stopped_answer, stopped_after, stopped_tables, stopped_cells, ran_answer, ran_after, ran_tables, ran_cells, kept_on}
 use Rattle.fitting.proofs.fitter.fit.Goals as goal

@@ -1,4 +1,4 @@
-use Rattle.std.proofs.Common.{◌≡◌, ℕ, ◌+◌, ◌^◌, ◌<◌, ◌≤◌, List, length, get_or, take, set, sym, refl, ap, ◌∙◌, subst, arith, length-set, length-take}
+use Rattle.std.proofs.Common.{◌≡◌, ℕ, ◌+◌, ◌≤◌, List, length, get_or, take, set, sym, ap, ◌∙◌, subst, arith, length-set, length-take}
 use Rattle.units.specs.declared.record.Record.{Record}
 use Rattle.run_laws.specs.Traces.{sums, one_in, sum_of}
 use Rattle.fitting.proofs.Working.{Worked, none_missing, sum_at, worked_one, worked_all}

@@ -1,9 +1,8 @@
-use Rattle.std.proofs.Common.{◌≡◌, ℕ, ◌≤◌, List, length, Some, None, sym, refl, ap, ◌∙◌, arith}
+use Rattle.std.proofs.Common.{◌≡◌, ◌≤◌, length, Some, None, sym, refl, ap, ◌∙◌, arith}
 use Rattle.std.proofs.lemmas.Result.{err_from_is_err_and}
 use Rattle.refusals.specs.declared.refusal.Refusal.{Refusal}
-use Rattle.refusals.specs.Faults.{verdict, settle}
+use Rattle.refusals.specs.Faults.{verdict}
 use Rattle.refusals.proofs.Firsts.{settle_is}
-use Rattle.plans.specs.declared.step.Step.{Step}
 use Rattle.plans.proofs.Admitted.{chain_of_lem}
 use Rattle.kinds.specs.declared.counts.Count.{Count}
 use Rattle.kinds.specs.Counting.{counting}
@@ -11,7 +10,7 @@ use Rattle.units.specs.Units.{State}
 use Rattle.banks.specs.Banks.{bank}
 use Rattle.run_sheet.specs.Sheets.{sheeted}
 use Rattle.run_laws.specs.Runs.{run_fault}
-use Rattle.fitting.specs.Fitting.{rehearsal_fault, rehearsed_in}
+use Rattle.fitting.specs.Fitting.{rehearsal_fault}
 use Rattle.refusals.proofs.Answered.{answer_none, answer_some, settle_none}
 use Rattle.fitting.proofs.Rehearsed.{one_count, outset, outset_is, fault_is, few, sums_small, front_is}
 use Rattle.fitting.proofs.rehearsal.rehearse.Goals as goal

@@ -1,5 +1,5 @@
 -- Each text is the definition's.
-use Rattle.std.proofs.Common.{◌≡◌, ◌<◌, sym, ap, arith}
+use Rattle.std.proofs.Common.{sym, ap, arith}
 use Rattle.fitting.specs.Words.{words}
 use Rattle.fitting.proofs.words.describe.Goals as goal
 

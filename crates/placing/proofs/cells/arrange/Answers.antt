@@ -1,5 +1,8 @@
-use Rattle.std.proofs.Common.{◌≡◌, ℕ, ◌+◌, max, List, length, get_or, subst, arith}
+use Rattle.std.proofs.Common.{◌≡◌, ℕ, ◌+◌, max, List, length, get_or, take, sym, subst, arith}
 use Rattle.plans.specs.declared.step.Step.{Step}
+use Rattle.placing.specs.Placing.{Supplied}
+use Rattle.placing.specs.Supply.{supplied_cells}
+use Rattle.placing.proofs.Supply.{supplied_cells_lem}
 use Rattle.placing.proofs.Kept.{Filled, filled_none, filled_next, filled_need, filled_supplied}
 use Rattle.placing.proofs.cells.arrange.Goals as goal
 
@@ -24,4 +27,5 @@ returns c =
     let end : c.loop-s.s ≡ length steps + 1 = omega arith in
     let f : Filled steps (length steps + 1) c.loop-s.cells c.loop-s.until c.loop-s.used =
     subst (λ n. Filled steps n c.loop-s.cells c.loop-s.until c.loop-s.used) end c.loop-s.invariant in
-    record { used = filled_need steps _ _ _ f; cells = filled_supplied steps _ _ _ f }
+    let named : take (length steps + 1) c.loop-s.cells ≡ supplied_cells steps = filled_supplied steps _ _ _ f in
+    record { used = filled_need steps _ _ _ f; cells = subst (Supplied steps) (sym named) (supplied_cells_lem steps); named = named }

@@ -21,8 +21,8 @@ returns c =
     let within : c.arrange-arranged.result.used ≤ c.args.cells = omega arith in
     record {
       answer = placed_ok _ _ _ _ enough c.arrange-arranged.ensures.used within;
-      after = leaves_ok _ _ _ _ _ c.arrange-arranged.result.used (omega arith) c.copy_from_slice.ensures.after c.arrange-arranged.ensures.cells;
-      cells = leaves_cells _ _ _ _ _ c.arrange-arranged.result.used (omega arith) c.copy_from_slice.ensures.after c.arrange-arranged.ensures.cells;
+      after = leaves_ok _ _ _ _ _ c.arrange-arranged.result.used (omega arith) c.copy_from_slice.ensures.after c.arrange-arranged.ensures.named;
+      cells = leaves_cells _ _ _ _ _ c.arrange-arranged.result.used (omega arith) c.copy_from_slice.ensures.after c.arrange-arranged.ensures.named;
       supplied = supplied_cells_lem _;
       exactly = fits_exactly _;
     }

@@ -1,5 +1,4 @@
-use Rattle.std.proofs.Common.{◌≡◌, ℕ, ◌+◌, ◌<◌, ◌≤◌, length, Ok, sym, refl, ap, ◌∙◌, arith}
-use Rattle.kinds.specs.Powers.{power}
+use Rattle.std.proofs.Common.{◌≡◌, length, refl, ◌∙◌, arith}
 use Rattle.kinds.proofs.Powers.{Laws}
 use Rattle.run_laws.specs.Runs.{last_value}
 use Rattle.run_laws.proofs.Turns.{turn_passes, turn_next, end_is, end_hands}

@@ -1,4 +1,4 @@
-use Rattle.std.proofs.Common.{◌≡◌, ℕ, ◌+◌, ◌-◌, List, ◌++◌, length, take, drop, replicate, Some, None, Ok, Err, Option, Result, sym, ap, ◌∙◌, subst, arith}
+use Rattle.std.proofs.Common.{◌≡◌, ℕ, ◌+◌, ◌-◌, List, ◌++◌, length, take, drop, replicate, None, Ok, Err, Option, Result, sym, ap, ◌∙◌, arith}
 use native.Mathlib.Nat.{sub-zero}
 use Rattle.refusals.specs.declared.refusal.Refusal.{Refusal}
 use Rattle.refusals.specs.Faults.{answer}
@@ -7,10 +7,8 @@ use Rattle.plans.specs.declared.step.Step.{Step}
 use Rattle.plans.proofs.Admitted.{chain_of_lem}
 use Rattle.placing.specs.Supply.{supplied_cells}
 use Rattle.placing.proofs.Supply.{front_supplied}
-use Rattle.kinds.specs.Kinds.{Meaning}
 use Rattle.kinds.specs.Powers.{power}
 use Rattle.kinds.proofs.Powers.{Laws}
-use Rattle.units.specs.Units.{State}
 use Rattle.run_laws.specs.Runs.{run_fault}
 use Rattle.run_laws.proofs.Passed.{load_passes, begun, handed, ended, success}
 use Rattle.runs.specs.declared.raised.Raised.{Raised}
@@ -42,7 +40,7 @@ returns-in_err-load g c =
     let p = c.args.plan.now in
     let told = c.in_ok-check_run.ensures in
     absurd (load_passes (g.U.Kind.kind u) (g.U.Unit.state u) p.steps.now c.args.base p.exponent (take (c.len.result + 1 - 0) c.check_run.new.places)
-    (chain_of_lem p) (supplied_by p.steps.now c.check_run.new.places c.len.result c.len.ensures.count told.placed) (verdict_none (run_fault (g.U.Kind.kind u) (g.U.Unit.state u) p.steps.now c.args.base) told.answer)
+    (chain_of_lem p) (supplied_by p.steps.now c.check_run.new.places c.len.result c.len.ensures.count told.named) (verdict_none (run_fault (g.U.Kind.kind u) (g.U.Unit.state u) p.steps.now c.args.base) told.answer)
     c.in_err-load.field-0.0 c.in_err-load.ensures.value)
 
 pub multiply_out-requires : goal.multiply_out-requires
@@ -51,7 +49,7 @@ multiply_out-requires g c =
     let p = c.args.plan.now in
     let told = c.in_ok-check_run.ensures in
     begun (g.U.Kind.kind u) (g.U.Unit.state u) p.steps.now c.args.base p.exponent (take (c.len.result + 1 - 0) c.check_run.new.places)
-    (chain_of_lem p) (supplied_by p.steps.now c.check_run.new.places c.len.result c.len.ensures.count told.placed) (verdict_none (run_fault (g.U.Kind.kind u) (g.U.Unit.state u) p.steps.now c.args.base) told.answer)
+    (chain_of_lem p) (supplied_by p.steps.now c.check_run.new.places c.len.result c.len.ensures.count told.named) (verdict_none (run_fault (g.U.Kind.kind u) (g.U.Unit.state u) p.steps.now c.args.base) told.answer)
     (g.U.Kind.kind c.load.new.self) (g.U.Unit.state c.load.new.self) c.steps.result.now
     c.load.ensures.same c.load.ensures.after c.steps.ensures.steps
 
@@ -62,7 +60,7 @@ returns-in_err-value g c =
     let told = c.in_ok-check_run.ensures in
     refused_is_answer c.in_err-value.field-0.0 (power (g.U.Kind.kind u) c.args.base p.exponent)
     (handed (g.U.Kind.kind u) (g.U.Unit.state u) p.steps.now c.args.base p.exponent (take (c.len.result + 1 - 0) c.check_run.new.places)
-    (chain_of_lem p) (supplied_by p.steps.now c.check_run.new.places c.len.result c.len.ensures.count told.placed) (verdict_none (run_fault (g.U.Kind.kind u) (g.U.Unit.state u) p.steps.now c.args.base) told.answer)
+    (chain_of_lem p) (supplied_by p.steps.now c.check_run.new.places c.len.result c.len.ensures.count told.named) (verdict_none (run_fault (g.U.Kind.kind u) (g.U.Unit.state u) p.steps.now c.args.base) told.answer)
     (g.U.Kind.kind c.load.new.self) (g.U.Unit.state c.load.new.self) c.steps.result.now
     c.load.ensures.same c.load.ensures.after c.steps.ensures.steps (Err c.in_err-value.field-0.0) c.in_err-value.ensures.value)
 
@@ -75,7 +73,7 @@ returns g c =
     let x = c.args.base in
     let told = c.in_ok-check_run.ensures in
     let places : List ℕ = take (c.len.result + 1 - 0) c.check_run.new.places in
-    let on : places ≡ supplied_cells p.steps.now = supplied_by p.steps.now c.check_run.new.places c.len.result c.len.ensures.count told.placed in
+    let on : places ≡ supplied_cells p.steps.now = supplied_by p.steps.now c.check_run.new.places c.len.result c.len.ensures.count told.named in
     let fine : run_fault m s p.steps.now x ≡ None = verdict_none (run_fault (g.U.Kind.kind u) (g.U.Unit.state u) p.steps.now c.args.base) told.answer in
     let ends = c.in_ok-value.ensures in
     let out : Ok c.in_ok-value.value ≡ Ok (power m x p.exponent) =
