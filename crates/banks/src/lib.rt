@@ -1,12 +1,18 @@
-//! Banks: a unit of 32 cells for each kind of value, with no records.
-//! `places` has what they share, `counts_bank`, `residues_bank` and `register_bank` the banks.
+//! Banks: a unit of 32 cells for any kind of value, with no records.
+//! `bank` has the bank; the three names say which kind a bank is of.
 #![tactic(auto)]
 
-pub mod counts_bank;
-mod places;
-pub mod register_bank;
-pub mod residues_bank;
+pub mod bank;
 
-pub use counts_bank::CountsBank;
-pub use register_bank::RegisterBank;
-pub use residues_bank::ResiduesBank;
+pub use bank::Bank;
+use kinds::{Counts, Residues};
+use polynomials::Register;
+
+/// A bank of counts.
+pub type CountsBank = Bank<Counts>;
+
+/// A bank of residues.
+pub type ResiduesBank = Bank<Residues>;
+
+/// A bank of register polynomials.
+pub type RegisterBank = Bank<Register>;

@@ -22,10 +22,7 @@ pub extern "C" fn residue_chain(p: u64, a: u32, b: u32, n: u64) -> u64
     let Ok(kind) = Residues::new(p) else {
         return REFUSED;
     };
-    match chain(&kind, a, b, n) {
-        Some(product) => product as u64,
-        None => REFUSED,
-    }
+    chain(&kind, a, b, n).map_or(REFUSED, u64::from)
 }
 
 /// The product of the polynomials a and n times b modulo f.
@@ -36,10 +33,7 @@ pub extern "C" fn polynomial_chain(f: u64, a: u64, b: u64, n: u64) -> u64
     let Ok(kind) = Register::new(f) else {
         return REFUSED;
     };
-    match chain(&kind, Word { bits: a }, Word { bits: b }, n) {
-        Some(product) => product.bits,
-        None => REFUSED,
-    }
+    chain(&kind, Word { bits: a }, Word { bits: b }, n).map_or(REFUSED, u64::from)
 }
 
 /// The capped sum of the count a and n times b.
@@ -47,10 +41,7 @@ pub extern "C" fn polynomial_chain(f: u64, a: u64, b: u64, n: u64) -> u64
 pub extern "C" fn count_chain(a: u64, b: u64, n: u64) -> u64
     ensures value { result ≡ count_chain a b n }
 {
-    match chain(&Counts, Count { value: a }, Count { value: b }, n) {
-        Some(sum) => sum.value,
-        None => REFUSED,
-    }
+    chain(&Counts, Count { value: a }, Count { value: b }, n).map_or(REFUSED, u64::from)
 }
 
 /// Power n of the polynomial x modulo f, by the plan from left to right.
@@ -61,10 +52,7 @@ pub extern "C" fn polynomial_power(f: u64, x: u64, n: u64) -> u64
     let Ok(kind) = Register::new(f) else {
         return REFUSED;
     };
-    match raise(&kind, Word { bits: x }, n) {
-        Ok(power) => power.bits,
-        Err(_) => REFUSED,
-    }
+    raise(&kind, Word { bits: x }, n).map_or(REFUSED, u64::from)
 }
 
 /// The checksum of the plan of n by the method of this number and width.
@@ -77,10 +65,9 @@ pub extern "C" fn plan_checksum(method: u64, width: u64, n: u64) -> u64
     };
     let mut table = [NO_STEP; MOST_STEPS];
     let mut parents = [0u16; PARENTS];
-    match chosen.plan(n, &mut table, &mut parents) {
-        Ok(len) => checksum(&table[..len]) / 2,
-        Err(_) => REFUSED,
-    }
+    chosen
+        .plan(n, &mut table, &mut parents)
+        .map_or(REFUSED, |len| checksum(&table[..len]) / 2)
 }
 
 /// The need of a plan of 128 steps, of which the first `counted` add a_0, placed within so many cells.
@@ -88,8 +75,5 @@ pub extern "C" fn plan_checksum(method: u64, width: u64, n: u64) -> u64
 pub extern "C" fn place_longest(counted: u8, cells: u8) -> u64
     ensures value { result ≡ place_longest counted cells }
 {
-    match place_within(counted, cells) {
-        Ok(need) => need as u64,
-        Err(_) => REFUSED,
-    }
+    place_within(counted, cells).map_or(REFUSED, u64::from)
 }

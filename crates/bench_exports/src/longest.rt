@@ -30,8 +30,8 @@ fn write_longest(counted: u8, table: &mut [Step])
     requires { length table.old ≡ 128 }
     ensures { table.new ≡ longest counted }
 {
-    for i in 0..MOST_STEPS {
-        table[i] = long_step(counted, i as u8);
+    for (i, step) in table.iter_mut().enumerate() {
+        *step = long_step(counted, i as u8);
     }
 }
 
@@ -41,8 +41,7 @@ pub(crate) fn place_within(counted: u8, cells: u8) -> Result<u8, Refusal>
 {
     let mut table = [NO_STEP; MOST_STEPS];
     write_longest(counted, &mut table);
-    let mut plan = Plan::one();
-    plan.admit(129, &table)?;
+    let plan = Plan::new(129, &table)?;
     let mut places = [0u8; MOST_VALUES];
     place(&plan, cells, &mut places)
 }

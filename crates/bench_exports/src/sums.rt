@@ -18,9 +18,5 @@ fn mix(sum: u64, step: Step) -> u64
 pub(crate) fn checksum(steps: &[Step]) -> u64
     ensures value { result ≡ checksum_from 0 steps.now }
 {
-    let mut sum = 0;
-    for i in 0..steps.len() {
-        sum = mix(sum, steps[i]);
-    }
-    sum
+    steps.iter().fold(0, |sum, step| mix(sum, *step))
 }

@@ -1,18 +1,18 @@
 -- The plan from the highest bit down: its turns, its length, and that it is a chain. Assumes nothing.
-use Rattle.std.proofs.Common.{◌≡◌, ℕ, zero, suc, ◌+◌, ◌-◌, ◌*◌, ◌/◌, ◌^◌, ◌<◌, ◌≤◌, true, false, eqb, List, [], ◌∷◌, ◌++◌, length, set, sym, refl, ap, ◌∙◌, subst, ⊎_elim, div-one, arith}
+use Rattle.std.proofs.Common.{◌≡◌, ℕ, zero, suc, ◌+◌, ◌-◌, ◌*◌, ◌/◌, ◌^◌, ◌<◌, ◌≤◌, true, false, eqb, List, [], ◌∷◌, ◌++◌, length, drop, set, sym, refl, ap, ◌∙◌, subst, ⊎_elim, div-one, arith}
 use lib.Count.{ones, ones_step, ones-ones}
 use lib.Pow.{shr_le}
 use Rattle.std.proofs.lemmas.List.{length-set}
 use Rattle.std.proofs.lemmas.Bool.{eq-eqb, ne_eqb, cases_eq}
 use Rattle.plans.specs.declared.step.Step.{Step}
 use Rattle.plans.specs.Chain.{value_at, Chain}
-use Rattle.planning.specs.Bits.{top, bit_at}
+use Rattle.bits.specs.Bits.{top, bit_at}
 use Rattle.planning.specs.Planning.{step}
-use Rattle.planning.proofs.Filling.{Filled, filled_none, filled_more}
+use Rattle.planning.proofs.Filling.{Filled, filled_none, filled_more, filled_all}
 use Rattle.planning.proofs.Powers.{halves}
 use Rattle.planning.proofs.Pushing.{Grown, Ends, grown_none, push, ends_push, ends_here, chain_from_ends}
 use Rattle.binary_plans.specs.LeftToRight.{left_from, left_to_right}
-use Rattle.binary_plans.proofs.BothPlans.{bit_small, Highest, Finished, finished}
+use Rattle.binary_plans.proofs.BothPlans.{bit_small, Highest}
 
 -- a turn at a bit that is 1, and at one that is 0
 pub left_one : (n b at v : ℕ) → bit_at n b ≡ 1 → left_from n (suc b) at v ≡ step at at (v + v) ∷ step (at + 1) 0 (v + v + 1) ∷ left_from n b (at + 1 + 1) (v + v + 1)
@@ -33,7 +33,7 @@ left_length n (suc b) at v =
     (λ (e : bit_at n b ≡ 1 → ⊥). omega (arith, ap length (left_none n b at v e), left_length n b (at + 1) (v + v), bit_small n b))
     (cases_eq (bit_at n b) 1)
 
-left_all_length : (n : ℕ) → n / 2 ^ top n ≡ 1 → length (left_to_right n) ≡ top n + ones n - 1
+pub left_all_length : (n : ℕ) → n / 2 ^ top n ≡ 1 → length (left_to_right n) ≡ top n + ones n - 1
 left_all_length n e =
     let o : ones (n / 2 ^ top n) ≡ ones 1 = ap ones e in
     let one : ones 1 ≡ 1 = ones-ones 1 in
@@ -59,17 +59,17 @@ left_ends n (suc b) at v p g e l q =
     (ends_push n p x _ (left_ends n b (at + 1) (v + v) p1 d.grown d.here (omega arith) (omega (arith, bit_small n b)))))
     (cases_eq (bit_at n b) 1)
 
-left_all_chain : (n : ℕ) → 1 ≤ n → n < 2 ^ 63 → n / 2 ^ top n ≡ 1 → length (left_to_right n) ≤ 128 → Chain n (left_to_right n)
+pub left_all_chain : (n : ℕ) → 1 ≤ n → n < 2 ^ 63 → n / 2 ^ top n ≡ 1 → length (left_to_right n) ≤ 128 → Chain n (left_to_right n)
 left_all_chain n a b e d = chain_from_ends n (left_to_right n) a b d (left_ends n (top n) 0 1 [] (grown_none n) refl (omega arith) (sym e))
 
 -- What the loop keeps, where the bits below b are left.
 pub record LeftLoop (n : ℕ) (was : List Step) (b : ℕ) (t : List Step) (at v : ℕ) : Type 0 where
   pub filled : Filled (left_to_right n) was t at (left_from n b at v)
-  pub long : 128 ≤ length t
+  pub long : length t ≡ 128
   pub room : at + 2 * b ≤ 124
   pub value : v ≡ n / 2 ^ b
 
-pub left_first : {n high : ℕ} {was : List Step} → 128 ≤ length was → Highest n high → LeftLoop n was high was 0 1
+pub left_first : {n high : ℕ} {was : List Step} → length was ≡ 128 → Highest n high → LeftLoop n was high was 0 1
 left_first {n} {high} {was} l h =
     record {
       filled = subst (λ (x : ℕ). Filled (left_to_right n) was was 0 (left_from n x 0 1)) h.is (filled_none (left_to_right n) was);
@@ -112,7 +112,7 @@ module _ {n : ℕ} {was : List Step} {b : ℕ} {t : List Step} {at v : ℕ} (g :
       }
 
 -- after the last bit
-pub left_done : {n high : ℕ} {was : List Step} {b : ℕ} {t : List Step} {at v : ℕ} → 1 ≤ n → n < 2 ^ 63 → 128 ≤ length was → Highest n high → LeftLoop n was b t at v → b ≡ 0 → Finished n (top n + ones n - 1) (left_to_right n) was t at
-left_done {n} {high} {was} {b} {t} {at} {v} low bounded long h g z =
-    finished low bounded long (omega (arith, g.room)) (omega (arith, g.room, g.long)) (left_all_length n h.one) (left_all_chain n low bounded h.one)
-    (subst (λ (x : ℕ). Filled (left_to_right n) was t at (left_from n x at v)) z g.filled)
+pub left_done : {n : ℕ} {was : List Step} {b : ℕ} {t : List Step} {at v : ℕ} → LeftLoop n was b t at v → b ≡ 0 → (at ≡ length (left_to_right n)) × (t ≡ left_to_right n ++ drop (length (left_to_right n)) was)
+left_done {n} {was} {b} {t} {at} {v} g z =
+    let f = filled_all (left_to_right n) was t at (omega (arith, g.room, g.long)) (subst (λ (x : ℕ). Filled (left_to_right n) was t at (left_from n x at v)) z g.filled) in
+    (f.0, f.1)

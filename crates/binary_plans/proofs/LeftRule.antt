@@ -2,9 +2,10 @@
 use Rattle.std.proofs.Common.{◌≡◌, ℕ, zero, suc, ◌+◌, ◌*◌, ◌/◌, ◌%◌, ◌^◌, ◌<◌, ◌≤◌, List, [], ◌∷◌, ◌++◌, length, sym, ap, ◌∙◌, ⊎_elim, div-one, add-one, one-add, arith, shr-shr}
 use Rattle.std.proofs.lemmas.Bool.{cases_eq}
 use Rattle.plans.specs.declared.step.Step.{Step}
-use Rattle.planning.specs.Bits.{top, bit_at}
+use Rattle.bits.specs.Bits.{top, bit_at}
 use Rattle.planning.specs.Planning.{step}
-use Rattle.planning.proofs.Powers.{top_is, halves, top_one, top_shifted}
+use Rattle.bits.proofs.Tops.{top_is}
+use Rattle.planning.proofs.Powers.{halves, top_one, top_shifted}
 use Rattle.binary_plans.specs.LeftToRight.{left_from, left_to_right, LeftToRightRule}
 use Rattle.binary_plans.proofs.BothPlans.{bit_small}
 use Rattle.binary_plans.proofs.LeftPlans.{left_one, left_none}
@@ -44,7 +45,7 @@ module _ (m n : ℕ) (half : m / 2 ≡ n) where
 pub left_to_right_rule : LeftToRightRule
 left_to_right_rule =
     record {
-      one = ap (λ (x : ℕ). left_from 1 x 0 1) (top_is 0 1 (omega arith) (omega arith) (omega arith));
+      one = ap (λ (x : ℕ). left_from 1 x 0 1) (top_is 0 1 (omega arith) (omega arith));
       even = λ n r l h e.
           let m : ℕ = 2 * n in
           let o = left_none m 0 r n (λ (z : bit_at m 0 ≡ 1). omega (arith, div-one m)) in

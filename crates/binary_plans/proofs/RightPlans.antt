@@ -1,18 +1,19 @@
 -- The plan from bit 0 up: its turns, its length, and that it is a chain. Assumes nothing.
-use Rattle.std.proofs.Common.{◌≡◌, ℕ, zero, suc, ◌+◌, ◌-◌, ◌*◌, ◌/◌, ◌^◌, ◌<◌, ◌≤◌, true, false, cond, eqb, List, [], ◌∷◌, ◌++◌, length, set, sym, refl, ap, ◌∙◌, subst, ⊎_elim, mul-le-mul_right, add-mul, one-mul, pow-suc, mul-one, mul-add, div-one, add-one, arith, pow_mono, shr-shr}
+use Rattle.std.proofs.Common.{◌≡◌, ℕ, zero, suc, ◌+◌, ◌-◌, ◌*◌, ◌/◌, ◌^◌, ◌<◌, ◌≤◌, Option, None, Some, true, false, cond, eqb, List, [], ◌∷◌, ◌++◌, length, drop, set, sym, refl, ap, ◌∙◌, subst, ⊎_elim, mul-le-mul_right, add-mul, one-mul, pow-suc, mul-one, mul-add, div-one, add-one, arith, pow_mono, shr-shr}
 use lib.Count.{ones, ones_step, ones-ones}
 use lib.Pow.{shr_le}
 use Rattle.std.proofs.lemmas.List.{length-set}
 use Rattle.std.proofs.lemmas.Bool.{eq-eqb, ne_eqb, cases_eq}
 use Rattle.plans.specs.declared.step.Step.{Step}
 use Rattle.plans.specs.Chain.{value_at, Chain}
-use Rattle.planning.specs.Bits.{top, bit_at}
+use Rattle.bits.specs.Bits.{top, bit_at}
+use Rattle.planning.specs.declared.steps.Reached.{Reached}
 use Rattle.planning.specs.Planning.{step}
-use Rattle.planning.proofs.Filling.{Filled, filled_none, filled_more}
+use Rattle.planning.proofs.Filling.{Filled, filled_none, filled_more, filled_all}
 use Rattle.planning.proofs.Powers.{halves}
 use Rattle.planning.proofs.Pushing.{Grown, Ends, grown_none, push, ends_push, ends_here, chain_from_ends}
 use Rattle.binary_plans.specs.RightToLeft.{right_from, right_to_left}
-use Rattle.binary_plans.proofs.BothPlans.{bit_small, Highest, Finished, finished}
+use Rattle.binary_plans.proofs.BothPlans.{bit_small, Highest}
 
 -- a turn at a bit that is 0, at the first that is 1, and at another
 pub right_none : (n left b at v s w : ℕ) → (bit_at n b ≡ 1 → ⊥) → right_from n (suc left) b at v s w ≡ step at at (v + v) ∷ right_from n left (b + 1) (at + 1) (v + v) s w
@@ -151,22 +152,35 @@ right_ends n (suc left) b at v s w p e i =
     (right_ends n left (b + 1) (at + 1) (v + v) s w (p ++ x ∷ []) f k)))
     (cases_eq (bit_at n b) 1)
 
-right_all_length : (n : ℕ) → n / 2 ^ top n ≡ 1 → length (right_to_left n) ≡ top n + ones n - 1
+pub right_all_length : (n : ℕ) → n / 2 ^ top n ≡ 1 → length (right_to_left n) ≡ top n + ones n - 1
 right_all_length n e =
     let o : ones (n / 2 ^ 0) ≡ ones n = ap ones (div-one n) in
     let f : n / 2 ^ (0 + top n) ≡ 1 = ap (λ (x : ℕ). n / 2 ^ x) (omega arith) ∙ e in
     omega (arith, right_length n (top n) 0 0 1 0 0 (omega arith) f)
 
-right_all_chain : (n : ℕ) → 1 ≤ n → n < 2 ^ 63 → n / 2 ^ top n ≡ 1 → length (right_to_left n) ≤ 128 → Chain n (right_to_left n)
+pub right_all_chain : (n : ℕ) → 1 ≤ n → n < 2 ^ 63 → n / 2 ^ top n ≡ 1 → length (right_to_left n) ≤ 128 → Chain n (right_to_left n)
 right_all_chain n a b e d =
     let f : n / 2 ^ (0 + top n) ≡ 1 = ap (λ (x : ℕ). n / 2 ^ x) (omega arith) ∙ e in
     let h : Halfway n 0 0 1 0 0 [] = record { grown = grown_none n; square = refl; positive = omega arith; below = omega arith; before = omega arith; sum = λ z. absurd (let no : ⊥ = omega arith in no); parts = omega (arith, div-one n, mul-one (n / 2 ^ 0)) } in
     chain_from_ends n (right_to_left n) a b d (right_ends n (top n) 0 0 1 0 0 [] f h)
 
+-- the sum so far: its number, its value, and that it is not 0; where there is none, both are 0
+abbrev pub sum_number : Option Reached → ℕ
+sum_number None = 0
+sum_number (Some r) = r.number
+
+abbrev pub sum_value : Option Reached → ℕ
+sum_value None = 0
+sum_value (Some r) = r.value
+
+abbrev pub SumIsPositive : Option Reached → Type 0
+SumIsPositive None = Unit {0}
+SumIsPositive (Some r) = 1 ≤ r.value
+
 -- What the loop keeps, where the bits from `bit` up to the highest are left.
 pub record RightLoop (n high : ℕ) (was : List Step) (bit : ℕ) (t : List Step) (at v s w : ℕ) : Type 0 where
   pub filled : Filled (right_to_left n) was t at (right_from n (high - bit) bit at v s w)
-  pub long : 128 ≤ length t
+  pub long : length t ≡ 128
   pub short : high ≤ 62
   pub below : bit ≤ high
   pub room : at ≤ 2 * bit
@@ -174,7 +188,7 @@ pub record RightLoop (n high : ℕ) (was : List Step) (bit : ℕ) (t : List Step
   pub square : v ≡ 2 ^ bit
   pub sum : w < v
 
-pub right_start : {n high : ℕ} {was : List Step} → 128 ≤ length was → Highest n high → RightLoop n high was 0 was 0 1 0 0
+pub right_start : {n high : ℕ} {was : List Step} → length was ≡ 128 → Highest n high → RightLoop n high was 0 was 0 1 0 0
 right_start {n} {high} {was} l h =
     let e : top n ≡ high - 0 = omega (arith, h.is) in
     record {
@@ -233,17 +247,20 @@ module _ {n high : ℕ} {was : List Step} {bit : ℕ} {t : List Step} {at v s w 
       (filled_more (right_to_left n) was t at _ _ (omega (arith, g.long, g.room, g.short)) (filled_here _ (right_more n (high - (bit + 1)) bit at v s w b z))))
 
 -- after the last bit below the highest: the square alone is n, or the sum is added to it
-module _ {n high : ℕ} {was : List Step} {bit : ℕ} {t : List Step} {at v s w : ℕ} (low : 1 ≤ n) (bounded : n < 2 ^ 63) (long : 128 ≤ length was) (h : Highest n high) (g : RightLoop n high was bit t at v s w) (end : high ≤ bit) where
+module _ {n high : ℕ} {was : List Step} {bit : ℕ} {t : List Step} {at v s w : ℕ} (g : RightLoop n high was bit t at v s w) (end : high ≤ bit) where
   filled_end : (rest : List Step) → right_from n 0 bit at v s w ≡ rest → Filled (right_to_left n) was t at rest
   filled_end rest e = let z : high - bit ≡ 0 = omega arith in subst (Filled (right_to_left n) was t at) (ap (λ (x : ℕ). right_from n x bit at v s w) z ∙ e) g.filled
 
-  pub right_done_alone : w ≡ 0 → Finished n (top n + ones n - 1) (right_to_left n) was t at
+  pub right_done_alone : w ≡ 0 → (at ≡ length (right_to_left n)) × (t ≡ right_to_left n ++ drop (length (right_to_left n)) was)
   right_done_alone z =
       let a : at ≤ 124 = omega (arith, g.room, g.short, g.below) in
-      finished low bounded long (omega arith) (omega (arith, g.long)) (right_all_length n h.one) (right_all_chain n low bounded h.one) (filled_end [] (right_alone n bit at v s w z))
+      let f = filled_all (right_to_left n) was t at (omega (arith, g.long)) (filled_end [] (right_alone n bit at v s w z)) in
+      (f.0, f.1)
 
-  pub right_done_last : (w ≡ 0 → ⊥) → Finished n (top n + ones n - 1) (right_to_left n) was (set t at (step at s (v + w))) (at + 1)
+  pub right_done_last : (w ≡ 0 → ⊥) → (at + 1 ≡ length (right_to_left n)) × (set t at (step at s (v + w)) ≡ right_to_left n ++ drop (length (right_to_left n)) was)
   right_done_last z =
       let a : at ≤ 124 = omega (arith, g.room, g.short, g.below) in
-      finished low bounded long (omega arith) (omega (arith, g.long, length-set t at (step at s (v + w)))) (right_all_length n h.one) (right_all_chain n low bounded h.one)
-      (filled_more (right_to_left n) was t at _ _ (omega (arith, g.long)) (filled_end _ (right_last n bit at v s w z)))
+      let x : Step = step at s (v + w) in
+      let f = filled_all (right_to_left n) was (set t at x) (at + 1) (omega (arith, g.long, length-set t at x))
+      (filled_more (right_to_left n) was t at _ _ (omega (arith, g.long)) (filled_end _ (right_last n bit at v s w z))) in
+      (f.0, f.1)

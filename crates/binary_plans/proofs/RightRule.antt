@@ -5,7 +5,7 @@ use Rattle.std.proofs.lemmas.List.{length_push}
 use Rattle.std.proofs.lemmas.Bool.{eq-eqb, ne_eqb, lt-ltb, le-ltb, and_from, and_left, and_right, cases_eq}
 use Rattle.plans.specs.declared.step.Step.{Step}
 use Rattle.plans.specs.Chain.{value_at}
-use Rattle.planning.specs.Bits.{top, bit_at}
+use Rattle.bits.specs.Bits.{top, bit_at}
 use Rattle.planning.specs.Planning.{step}
 use Rattle.planning.proofs.Growing.{value_pushed}
 use Rattle.planning.proofs.Powers.{top_one}

@@ -1,7 +1,7 @@
 -- The plan from the highest bit down. Assumes nothing.
 use Rattle.std.specs.Prelude.{◌≡◌, ℕ, zero, suc, ◌+◌, ◌*◌, ◌^◌, ◌<◌, ◌≤◌, cond, List, [], ◌∷◌, ◌++◌, length, ◌==◌}
 use Rattle.plans.specs.declared.step.Step.{Step}
-use Rattle.planning.specs.Bits.{top, bit_at}
+use Rattle.bits.specs.Bits.{top, bit_at}
 use Rattle.planning.specs.Planning.{step}
 
 -- the steps for the bits of n below b, where `at` steps are there and the last value is v: it is doubled, and then a_0 is added if the bit is 1

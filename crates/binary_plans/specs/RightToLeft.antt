@@ -2,7 +2,7 @@
 use Rattle.std.specs.Prelude.{◌≡◌, ℕ, zero, suc, ◌+◌, ◌%◌, ◌^◌, ◌<◌, ◌≤◌, cond, ◌&&◌, List, [], ◌∷◌, ◌++◌, map, ◌==◌, nat_lt}
 use Rattle.plans.specs.declared.step.Step.{Step}
 use Rattle.plans.specs.Chain.{value_at}
-use Rattle.planning.specs.Bits.{top, bit_at}
+use Rattle.bits.specs.Bits.{top, bit_at}
 use Rattle.planning.specs.Planning.{step}
 
 -- the steps from bit b of n up, where so many bits are left below the highest, `at` steps are there, the last value is the square v, and the sum is w, the value number s (0 as long as there is none):

@@ -41,16 +41,6 @@ top_unique n j lo hi = go (cases_order j (top n))
     go (inr (inl h)) = absurd (omega (arith, pow_mono {i = suc j} {j = top n} h, b))
     go (inr (inr h)) = absurd (omega (arith, pow_mono {i = suc (top n)} {j = j} h, b))
 
-pub top_lt : (n k : ℕ) → 0 < n → n < 2 ^ k → top n < k
-top_lt n k p h = go (cases_lt (top n) k)
-  where
-    b : (2 ^ top n ≤ n) × (n < 2 ^ suc (top n))
-    b = top_bounds n p
-
-    go : (top n < k) ⊎ (k ≤ top n) → top n < k
-    go (inl e) = e
-    go (inr e) = absurd (omega (arith, pow_mono {i = k} {j = top n} e, b))
-
 pub highest : Highest
 highest n p = let b = top_bounds n p in (b.0, subst (λ (k : ℕ). n < 2 ^ k) (sym (add-one (top n))) b.1)
 

@@ -1,200 +1,198 @@
 //! Performs a list of calls on a unit, and compares each answer, and what is there after the list, with the table.
-use crate::numbers::{Number, filled};
-use crate::table::{AFTER, Ask, LINE, List, NO_STEP, TABLE, Told};
+use crate::table::{Ask, List, TABLE, Told, table_after};
 use calls::{Answer, Call, perform};
-use kinds::Kind;
-use plans::{Plan, Step};
+use plain_numbers::refused::{METHOD, TABLE_SHORT};
+use plain_numbers::{Number, Refused};
+use plans::{NO_STEP, Plan};
 use refusals::Refusal;
 use std::alloc::{AllocError, Global};
+use std::fmt;
+use std::num::Saturating;
 use units::Unit;
 
-/// What came of a list.
+/// What became of the allowance.
 #[derive(Clone, Copy)]
-pub(crate) struct Tally {
-    /// How many calls were made.
-    pub(crate) calls: usize,
-    /// How many of them the table has as refused.
-    pub(crate) refused: u32,
-    /// How many answers are not the table's.
-    pub(crate) answers: u32,
-    /// How much else is not as it should be.
-    pub(crate) states: u32,
+pub(crate) struct Spending {
     /// The lengths of the accepted runs, by the table.
     pub(crate) spent: u64,
     /// The allowance after the list.
     pub(crate) left: u64,
-    /// The number and the place at which the list with too few places for answers is refused.
-    pub(crate) short: (u8, u64),
 }
 
-impl Tally {
-    // What the table says of a list: its calls, those that are refused, and the lengths of the runs that are accepted.
-    fn of(list: &List) -> Tally {
-        let mut refused = 0u32;
-        let mut spent = 0usize;
-        for row in list.rows {
-            let length = match row {
-                (Ask::Run(chain, _), Told::Ran(_)) => chain.plan().1.len(),
-                (Ask::Job(sheet, _, _), Told::JobDone(_)) => sheet.text().len() / LINE,
-                (_, Told::Loaded | Told::Read(_)) => 0,
-                _ => {
-                    refused = refused.saturating_add(1);
-                    0
-                }
-            };
-            spent = spent.saturating_add(length);
-        }
-        Tally {
-            calls: list.rows.len(),
-            refused,
-            answers: 0,
-            states: 0,
-            spent: spent as u64,
-            left: 0,
-            short: (0, 0),
-        }
-    }
+/// A list, and what came of it.
+#[derive(Clone, Copy)]
+pub(crate) struct Tally {
+    list: List,
+    /// How many answers are not the table's.
+    answers: usize,
+    /// How much else is not as it should be.
+    states: Saturating<u32>,
+    spending: Spending,
+    /// What the list with too few places for answers is answered.
+    short: Result<(), Refused>,
+}
 
-    /// Counts what does not hold.
-    pub(crate) fn expect(&mut self, holds: bool) {
-        if !holds {
-            self.states = self.states.saturating_add(1);
+impl fmt::Display for Tally {
+    fn fmt<W: fmt::Write>(&self, f: &mut fmt::Formatter<W>) -> fmt::Result {
+        let rows = self.list.rows;
+        let refused = rows.iter().filter(|(_, told)| told.is_refused()).count();
+        let Tally {
+            answers,
+            states,
+            spending: Spending { spent, left },
+            ..
+        } = self;
+        let calls = rows.len();
+        write!(
+            f,
+            "{calls} calls, {refused} of them refused, {answers} answers differ; "
+        )?;
+        write!(
+            f,
+            "{spent} multiplications made, {left} left, {states} states differ; "
+        )?;
+        match &self.short {
+            Ok(()) => write!(f, "one answer place less: accepted"),
+            Err(e) => write!(f, "one answer place less: {e}"),
         }
     }
 }
 
-// What a place for an answer holds before the list: no load is refused 2.
-const UNTOLD: Told = Told::LoadRefused(2, 0);
+// An answer that no call of the lists gives; it stands in each place before the list is made.
+fn untold<V>() -> Answer<V> {
+    Answer::Loaded(Err(Refusal::Method))
+}
 
-// A row's call. A plan that is not admitted stays that of 1, and the answer is then another.
+// The same as the table has answers.
+const UNTOLD: Told = Told::Loaded(Err(Refused(METHOD, 0)));
+
+// A row's call. A plan that is not admitted becomes that of 1, and the answer is then another.
 fn call_of<V: Number>(ask: Ask) -> Call<'static, V> {
     match ask {
         Ask::Load(cell, value) => Call::load(cell, V::of(value)),
         Ask::Read(cell) => Call::read(cell),
-        Ask::Run(chain, base) => {
-            let (n, steps) = chain.plan();
-            let mut plan = Plan::one();
-            let _ = plan.admit(n, steps);
-            Call::run(plan, V::of(base))
-        }
-        Ask::Job(sheet, n, base) => Call::job(sheet.text(), n, V::of(base)),
+        Ask::Run(known, base) => Call::run(known.plan().unwrap_or(Plan::one()), V::of(base)),
+        Ask::Job(sheet, n, base) => Call::job(sheet, n, V::of(base)),
     }
 }
 
 fn told_of<V: Number>(answer: Answer<V>) -> Told {
     match answer {
-        Answer::Loaded(Ok(())) => Told::Loaded,
-        Answer::Loaded(Err(e)) => Told::LoadRefused(e.number(), e.place()),
-        Answer::Got(Ok(v)) => Told::Read(v.number()),
-        Answer::Got(Err(e)) => Told::ReadRefused(e.number(), e.place()),
-        Answer::Power(Ok(raised)) => Told::Ran(raised.value.number()),
-        Answer::Power(Err(e)) => Told::RunRefused(e.number(), e.place()),
-        Answer::Carried(Ok(raised)) => Told::JobDone(raised.value.number()),
-        Answer::Carried(Err(e)) => Told::JobRefused(e.stage(), e.number(), e.place()),
+        Answer::Loaded(done) => Told::Loaded(done.map_err(Refused::from)),
+        Answer::Got(value) => Told::Read(value.map(|v| v.number()).map_err(Refused::from)),
+        Answer::Power(power) => Told::Ran(
+            power
+                .map(|raised| raised.value.number())
+                .map_err(Refused::from),
+        ),
+        Answer::Carried(power) => Told::Job(
+            power
+                .map(|raised| raised.value.number())
+                .map_err(|e| (e.stage, Refused::from(e.refusal))),
+        ),
     }
-}
-
-// Whether a unit is as new: its cells all empty, its allowance whole.
-fn is_new<U: Unit>(unit: &U, list: &List) -> bool {
-    for cell in 0..unit.cells() {
-        if unit.read(cell).is_ok() {
-            return false;
-        }
-    }
-    unit.cells() == list.cells && unit.allowance() == list.start
 }
 
 // How many answers are not those of the rows; a place beyond the rows is to be as it was.
-fn count_differing<V: Number>(rows: &[(Ask, Told)], answers: &[Answer<V>]) -> u32 {
-    let mut differ = 0u32;
-    for (i, answer) in answers.iter().enumerate() {
-        let expected = match rows.get(i) {
-            Some(row) => row.1,
-            None => UNTOLD,
-        };
-        if told_of(*answer) != expected {
-            differ = differ.saturating_add(1);
+fn count_differing<V: Number>(rows: &[(Ask, Told)], answers: &[Answer<V>]) -> usize {
+    answers
+        .iter()
+        .enumerate()
+        .filter(|(i, answer)| told_of(**answer) != rows.get(*i).map_or(UNTOLD, |row| row.1))
+        .count()
+}
+
+impl Tally {
+    // What the table says of a list.
+    fn of(list: List) -> Tally {
+        let spent = list.rows.iter().filter(|(_, told)| !told.is_refused()).fold(
+            0u64,
+            |spent, (ask, _)| spent.saturating_add(ask.length() as u64),
+        );
+        Tally {
+            list,
+            answers: 0,
+            states: Saturating(0),
+            spending: Spending { spent, left: 0 },
+            short: Ok(()),
         }
     }
-    differ
-}
 
-fn is_table(table: &[Step], expected: &[Step]) -> bool {
-    table == expected
-}
-
-// Performs the list with too few places for answers, which changes nothing.
-fn try_short<U: Unit>(
-    unit: &mut U,
-    calls: &[Call<'_, U::Value>],
-    answers: &mut [Answer<U::Value>],
-    list: &List,
-    tally: &mut Tally,
-)
-where
-    U::Value: Number,
-{
-    let mut table = [NO_STEP; TABLE];
-    if let Err(e) = perform(unit, calls, answers, &mut table) {
-        tally.short = (e.number(), e.place());
+    // Counts what does not hold.
+    fn expect(&mut self, holds: bool) {
+        self.states += u32::from(!holds);
     }
-    let (number, place) = tally.short;
-    tally.expect(number == 14 && place == list.rows.len() as u64);
-    tally.expect(is_new(unit, list));
-    tally.expect(count_differing(&[], answers) == 0);
-    tally.expect(is_table(&table, &[NO_STEP; TABLE]));
+
+    // Whether a unit is as new: its cells all empty, its allowance whole.
+    fn is_new<U: Unit>(&self, unit: &U) -> bool {
+        unit.cells() == self.list.cells
+            && unit.allowance() == self.list.start
+            && (0..unit.cells()).all(|cell| unit.read(cell).is_err())
+    }
+
+    // Performs the list with too few places for answers, which changes nothing.
+    fn try_short<U: Unit>(
+        &mut self,
+        unit: &mut U,
+        calls: &[Call<'_, U::Value>],
+        answers: &mut [Answer<U::Value>],
+    )
+    where
+        U::Value: Number,
+    {
+        let mut table = [NO_STEP; TABLE];
+        let short = perform(unit, calls, answers, &mut table).map_err(Refused::from);
+        let wanted = self.list.rows.len() as u64;
+        self.expect(short == Err(Refused(TABLE_SHORT, wanted)));
+        let new = self.is_new(unit);
+        self.expect(new);
+        self.short = short;
+        self.expect(count_differing(&[], answers) == 0);
+        self.expect(table == [NO_STEP; TABLE]);
+    }
+
+    // Performs the list, and compares each answer, and then the allowance and the step table.
+    fn try_whole<U: Unit>(
+        &mut self,
+        unit: &mut U,
+        calls: &[Call<'_, U::Value>],
+        answers: &mut [Answer<U::Value>],
+    )
+    where
+        U::Value: Number,
+    {
+        let mut table = [NO_STEP; TABLE];
+        self.expect(perform(unit, calls, answers, &mut table).is_ok());
+        self.answers = count_differing(self.list.rows, answers);
+        self.spending.left = unit.allowance();
+        let Spending { spent, left } = self.spending;
+        self.expect(self.list.start.checked_sub(spent) == Some(left));
+        self.expect(table == table_after());
+    }
 }
 
-// Performs the list, and compares each answer, and then the allowance and the step table.
-fn try_whole<U: Unit>(
-    unit: &mut U,
-    calls: &[Call<'_, U::Value>],
-    answers: &mut [Answer<U::Value>],
-    list: &List,
-    tally: &mut Tally,
-)
-where
-    U::Value: Number,
-{
-    let mut table = [NO_STEP; TABLE];
-    tally.expect(perform(unit, calls, answers, &mut table).is_ok());
-    tally.answers = count_differing(list.rows, answers);
-    tally.left = unit.allowance();
-    tally.expect(list.start.checked_sub(tally.spent) == Some(tally.left));
-    tally.expect(is_table(&table, &AFTER));
-}
-
-// Performs the calls once with one place too few for their answers, and once with one more than they want.
-fn compare<U: Unit>(
+/// Performs the list on a new unit, once with one place too few for the answers, and once with one more than they want, and compares what comes of it with the table;
+/// and last whether what lies below the unit agrees.
+pub(crate) fn try_list<U: Unit + Drop, F: FnOnce(U, Spending) -> bool>(
     heap: Global,
-    unit: &mut U,
-    calls: &[Call<'_, U::Value>],
-    list: &List,
+    mut unit: U,
+    list: List,
+    agrees: F,
 ) -> Result<Tally, AllocError>
 where
     U::Value: Number,
-{
-    let mut tally = Tally::of(list);
-    let untold = Answer::Loaded(Err(Refusal::Method));
-    let mut answers = filled(heap, untold, calls.len().saturating_sub(1))?;
-    try_short(unit, calls, answers.as_mut_slice(), list, &mut tally);
-    let mut answers = filled(heap, untold, calls.len().saturating_add(1))?;
-    try_whole(unit, calls, answers.as_mut_slice(), list, &mut tally);
-    Ok(tally)
-}
-
-/// Performs the list on a new unit, and compares what comes of it with the table.
-pub(crate) fn try_list<U: Unit>(
-    heap: Global,
-    unit: &mut U,
-    list: &List,
-) -> Result<Tally, AllocError>
-where
-    U::Value: Number,
+    requires { F.IsAlwaysCallable agrees }
 {
     let mut calls = Vec::new(heap);
-    for row in list.rows {
-        calls.push(call_of(row.0))?;
+    for (ask, _) in list.rows {
+        calls.push(call_of(*ask))?;
     }
-    compare(heap, unit, calls.as_slice(), list)
+    let mut tally = Tally::of(list);
+    let mut answers = vec![in heap; untold(); calls.len().saturating_sub(1)]?;
+    tally.try_short(&mut unit, calls.as_slice(), answers.as_mut_slice());
+    let mut answers = vec![in heap; untold(); calls.len().saturating_add(1)]?;
+    tally.try_whole(&mut unit, calls.as_slice(), answers.as_mut_slice());
+    let agreed = agrees(unit, tally.spending);
+    tally.expect(agreed);
+    Ok(tally)
 }

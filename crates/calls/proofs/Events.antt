@@ -6,7 +6,6 @@ use Rattle.refusals.specs.declared.refusal.Refusal.{Refusal}
 use Rattle.refusals.specs.declared.refusal.Refusal.TheVariants.{TableShort}
 use Rattle.refusals.specs.Faults.{settle, answer}
 use Rattle.plans.specs.declared.step.Step.{Step}
-use Rattle.plans.specs.declared.plan.Plan.{Plan}
 use Rattle.plans.specs.Admission.{admission}
 use Rattle.sheets.specs.Reading.{read_sheet}
 use Rattle.kinds.specs.Kinds.{Meaning}
@@ -102,22 +101,22 @@ module _ {V : Type 0} where
   job_effect m s t n x (Err e) q = still_effect m s t q
   job_effect m s t n x (Ok steps) q = admitted_effect m s t n x steps (admission n steps) refl q
 
-  made_effect : (m : Meaning V) (room : ℕ) (p : Plan) (act : Act V) (b : Bench V) (a : Answer V) (d : Bench V) → MadeBy m room p act b a d
-      → Effect m b.unit (record { run = asks m room p act; given = gives a }) d.unit
-  made_effect m room p (Load i v) b a d (e, q, _) =
+  made_effect : (m : Meaning V) (room : ℕ) (act : Act V) (b : Bench V) (a : Answer V) (d : Bench V) → MadeBy m room act b a d
+      → Effect m b.unit (record { run = asks m room act; given = gives a }) d.unit
+  made_effect m room (Load i v) b a d (e, q, _) =
       subst (λ (z : Answer V). Effect m b.unit (record { run = None; given = gives z }) d.unit) (sym e) (load_effect m b.unit d.unit i v (load_fault m b.unit i v) q)
-  made_effect m room p (Read i) b a d (e, q, _) =
+  made_effect m room (Read i) b a d (e, q, _) =
       subst (λ (z : Answer V). Effect m b.unit (record { run = None; given = gives z }) d.unit) (sym e) (still_effect m b.unit d.unit q)
-  made_effect m room p (Run x) b a d (e, q, _) =
-      subst (λ (z : Answer V). Effect m b.unit (record { run = asks m room p (Run x); given = gives z }) d.unit) (sym e)
+  made_effect m room (Run p x) b a d (e, q, _) =
+      subst (λ (z : Answer V). Effect m b.unit (record { run = asks m room (Run p x); given = gives z }) d.unit) (sym e)
       (run_effect m b.unit d.unit p.exponent p.steps.now x (run_fault m b.unit p.steps.now x) refl q)
-  made_effect m room p (Job text n x) b a d (e, q, _) =
-      subst (λ (z : Answer V). Effect m b.unit (record { run = asks m room p (Job text n x); given = gives z }) d.unit) (sym e)
+  made_effect m room (Job text n x) b a d (e, q, _) =
+      subst (λ (z : Answer V). Effect m b.unit (record { run = asks m room (Job text n x); given = gives z }) d.unit) (sym e)
       (job_effect m b.unit d.unit n x (read_sheet text.now room) q)
 
   effects : (m : Meaning V) (room : ℕ) (b : Bench V) (es : List (Turn V)) (d : Bench V) → Performed m room b es d → InTurn m b.unit (map (event_of m room) es) d.unit
   effects m room b [] d q = ap (λ (z : Bench V). z.unit) q
-  effects m room b (e ∷ es) d (c, p, q) = (c.unit, made_effect m room e.call.plan e.call.act b e.answer c p, effects m room c es d q)
+  effects m room b (e ∷ es) d (c, p, q) = (c.unit, made_effect m room e.call.act b e.answer c p, effects m room c es d q)
 
   pub law_of : (m : Meaning V) (room : ℕ) (b : Bench V) (es : List (Turn V)) (d : Bench V) → Performed m room b es d → Law m b.unit (map (event_of m room) es) d.unit
   law_of m room b es d done = lawful m b.unit d.unit (map (event_of m room) es) (effects m room b es d done)

@@ -5,7 +5,6 @@ use Rattle.refusals.specs.declared.refusal.Refusal.{Refusal}
 use Rattle.refusals.specs.declared.refusal.Refusal.TheVariants.{TableShort}
 use Rattle.refusals.specs.Faults.{unless, verdict, Unchanged}
 use Rattle.plans.specs.declared.step.Step.{Step}
-use Rattle.plans.specs.declared.plan.Plan.{Plan}
 use Rattle.sheets.specs.Reading.{read_sheet, filled}
 use Rattle.kinds.specs.Kinds.{Meaning}
 use Rattle.units.specs.Units.{State, load_answer, load_after, reading}
@@ -29,23 +28,23 @@ abbrev pub bench : {V : Type 0} → State V → List Step → Bench V
 bench s table = record { unit = s; table = table }
 
 -- what one call answers and leaves, where the table has so many places
-abbrev pub MadeBy : {V : Type 0} → Meaning V → ℕ → Plan → Act V → Bench V → Answer V → Bench V → Type 0
-MadeBy m room p (Load i v) b a d =
+abbrev pub MadeBy : {V : Type 0} → Meaning V → ℕ → Act V → Bench V → Answer V → Bench V → Type 0
+MadeBy m room (Load i v) b a d =
     (a ≡ Loaded (load_answer m b.unit i v)) × (d.unit ≡ load_after m b.unit i v) × (d.table ≡ b.table)
-MadeBy m room p (Read i) b a d =
+MadeBy m room (Read i) b a d =
     (a ≡ Got (reading b.unit i)) × (d.unit ≡ b.unit) × (d.table ≡ b.table)
-MadeBy m room p (Run x) b a d =
+MadeBy m room (Run p x) b a d =
     (a ≡ Power (run_answer m b.unit p.exponent p.steps.now x))
     × Ran m b.unit p.exponent p.steps.now x (run_answer m b.unit p.exponent p.steps.now x) d.unit
     × (d.table ≡ b.table)
-MadeBy m room p (Job text n x) b a d =
+MadeBy m room (Job text n x) b a d =
     (a ≡ Carried (job_answer m b.unit (read_sheet text.now room) n x))
     × Jobbed m b.unit n x (job_plan (read_sheet text.now room) n) d.unit
     × (d.table ≡ filled (read_sheet text.now room) b.table)
 
 -- what a call answers and leaves
 abbrev pub Made : {V : Type 0} → Meaning V → ℕ → Call V → Bench V → Answer V → Bench V → Type 0
-Made m room c b a d = MadeBy m room c.plan c.act b a d
+Made m room c b a d = MadeBy m room c.act b a d
 
 -- a call with this answer left the thing itself as it was if it was refused, and every reading did
 abbrev pub Kept : {V A : Type 0} → Answer V → A → A → Type 0
@@ -71,11 +70,11 @@ Performed m room b [] d = d ≡ b
 Performed {V} m room b (e ∷ es) d = (c : Bench V) × Made m room e.call b e.answer c × Performed m room c es d
 
 -- the run that a call asks for: a run, that of its plan; a job, that of its sheet's steps, if they are read and admitted; the others none
-abbrev pub asks : {V : Type 0} → Meaning V → ℕ → Plan → Act V → Option (Asked V)
-asks m room p (Load i v) = None
-asks m room p (Read i) = None
-asks m room p (Run x) = Some (asked m p.exponent p.steps.now x)
-asks m room p (Job text n x) = option_map (λ steps. asked m n steps x) (job_plan (read_sheet text.now room) n)
+abbrev pub asks : {V : Type 0} → Meaning V → ℕ → Act V → Option (Asked V)
+asks m room (Load i v) = None
+asks m room (Read i) = None
+asks m room (Run p x) = Some (asked m p.exponent p.steps.now x)
+asks m room (Job text n x) = option_map (λ steps. asked m n steps x) (job_plan (read_sheet text.now room) n)
 
 -- what an accepted run handed out
 abbrev pub handed_out : {V E : Type 0} → Result (Raised V) E → Option (List V)
@@ -91,7 +90,7 @@ gives (Carried r) = handed_out r
 
 -- a call and its answer, as the law sees them
 abbrev pub event_of : {V : Type 0} → Meaning V → ℕ → Turn V → Event V
-event_of m room e = record { run = asks m room e.call.plan e.call.act; given = gives e.answer }
+event_of m room e = record { run = asks m room e.call.act; given = gives e.answer }
 
 -- the calls and their answers, as the law sees them
 abbrev pub events : {V : Type 0} → Meaning V → ℕ → List (Call V) → List (Answer V) → List (Event V)

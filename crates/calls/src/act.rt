@@ -1,5 +1,6 @@
 //! What a call does, and what it answers.
 use jobs::JobRefusal;
+use plans::Plan;
 use refusals::Refusal;
 use runs::Raised;
 
@@ -10,8 +11,8 @@ pub enum Act<'a, V> {
     Load(u8, V),
     /// Reads the cell.
     Read(u8),
-    /// Runs the call's plan from the base.
-    Run(V),
+    /// Runs the plan from the base.
+    Run(Plan<'a>, V),
     /// Carries the sheet through reading, admission for the exponent, and running from the base.
     Job(&'a [u8], u64, V),
 }

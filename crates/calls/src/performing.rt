@@ -19,15 +19,15 @@ pub fn perform_call<U: Unit>(
     call: &Call<'_, U::Value>,
     table: &mut [Step],
 ) -> Answer<U::Value>
-    ensures made { Made (U.Kind.kind unit.old) (length table.old) call.now (bench (U.Unit.state unit.old) table.old) result (bench (U.Unit.state unit.new) table.new) }
-    ensures law { Law (U.Kind.kind unit.old) (U.Unit.state unit.old) (events (U.Kind.kind unit.old) (length table.old) (call.now ∷ []) (result ∷ [])) (U.Unit.state unit.new) }
+    ensures made { Made (U.kind unit.old) (length table.old) call.now (bench (U.state unit.old) table.old) result (bench (U.state unit.new) table.new) }
+    ensures law { Law (U.kind unit.old) (U.state unit.old) (events (U.kind unit.old) (length table.old) (call.now ∷ []) (result ∷ [])) (U.state unit.new) }
     ensures refused { Kept result unit.old unit.new }
-    ensures same { U.Kind.kind unit.new ≡ U.Kind.kind unit.old }
+    ensures same { U.kind unit.new ≡ U.kind unit.old }
 {
     match &call.act {
         Act::Load(cell, value) => Answer::Loaded(unit.load(*cell, *value)),
         Act::Read(cell) => Answer::Got(unit.read(*cell)),
-        Act::Run(base) => Answer::Power(run(unit, &call.plan, *base)),
+        Act::Run(plan, base) => Answer::Power(run(unit, plan, *base)),
         Act::Job(text, n, base) => Answer::Carried(job(unit, text, *n, *base, table)),
     }
 }
@@ -41,17 +41,17 @@ pub fn perform<U: Unit>(
     table: &mut [Step],
 ) -> Result<(), Refusal>
     ensures answer { result ≡ list_answer (length calls.now) (length answers.old) }
-    ensures each { OnOk result (Performed (U.Kind.kind unit.old) (length table.old) (bench (U.Unit.state unit.old) table.old) (turns calls.now answers.new) (bench (U.Unit.state unit.new) table.new)) }
-    ensures law { OnOk result (Law (U.Kind.kind unit.old) (U.Unit.state unit.old) (events (U.Kind.kind unit.old) (length table.old) calls.now answers.new) (U.Unit.state unit.new)) }
+    ensures each { OnOk result (Performed (U.kind unit.old) (length table.old) (bench (U.state unit.old) table.old) (turns calls.now answers.new) (bench (U.state unit.new) table.new)) }
+    ensures law { OnOk result (Law (U.kind unit.old) (U.state unit.old) (events (U.kind unit.old) (length table.old) calls.now answers.new) (U.state unit.new)) }
     ensures rest { drop (length calls.now) answers.new ≡ drop (length calls.now) answers.old }
     ensures refused { Unchanged result unit.old unit.new × Unchanged result answers.old answers.new × Unchanged result table.old table.new }
-    ensures same { U.Kind.kind unit.new ≡ U.Kind.kind unit.old }
+    ensures same { U.kind unit.new ≡ U.kind unit.old }
 {
     if answers.len() < calls.len() {
         return Err(Refusal::TableShort(calls.len() as u64));
     }
-    for i in 0..calls.len() {
-        answers[i] = perform_call(unit, &calls[i], table);
+    for (i, call) in calls.iter().enumerate() {
+        answers[i] = perform_call(unit, call, table);
     }
     Ok(())
 }

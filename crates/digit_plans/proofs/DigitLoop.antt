@@ -1,12 +1,13 @@
 -- The loop over the digits, and the table after it. Assumes nothing.
 use Rattle.std.proofs.Common.{◌≡◌, ℕ, zero, suc, ◌+◌, ◌-◌, ◌*◌, ◌/◌, ◌%◌, ◌^◌, ◌<◌, ◌≤◌, List, [], ◌∷◌, ◌++◌, length, drop, set, sym, refl, ap, ◌∙◌, subst, add-zero, suc-mul, mul-le-mul_left, zero-add, mul-one, mul-suc, arith, length-append, pow_pos}
 use lib.Pow.{shr_le}
-use lib.Seq.{sets, sets-eq, length-sets}
+use lib.Seq.{sets, sets-eq}
 use Rattle.std.proofs.lemmas.List.{length_push}
 use Rattle.plans.specs.declared.step.Step.{Step}
-use Rattle.planning.specs.Bits.{top}
+use Rattle.bits.specs.Bits.{top}
 use Rattle.planning.specs.Planning.{step}
-use Rattle.planning.proofs.Powers.{top_low, top_is, top_below}
+use Rattle.bits.proofs.Tops.{top_low, top_is}
+use Rattle.planning.proofs.Powers.{top_below}
 use Rattle.digit_plans.specs.Digits.{count_from, doubles, digit, one_digit, digits_from, lower, leading, digits_plan}
 use Rattle.digit_plans.proofs.Counting.{count_length}
 use Rattle.digit_plans.proofs.DigitPlans.{one_none, one_some, digits_end, digits_here, value_digit, digit_below, one_at_most, plan_low, plan_high, the_top}
@@ -39,9 +40,7 @@ module _ (k e at from v : ℕ) (was : List Step) {t : List Step} {len : ℕ} (co
 pub record Turning (k n place : ℕ) (t : List Step) (len from v : ℕ) (whole : List Step) (total : ℕ) : Type 0 where
   pub table : sets t len (digits_from k n place len from v) ≡ whole
   pub count : len + length (digits_from k n place len from v) ≡ total
-  pub long : 128 ≤ length t
   pub room : len + (k + 1) * place ≤ 124
-  pub before : from ≤ len
   pub positive : 1 ≤ v
   pub value : v ≡ n / 2 ^ (place * k)
   pub shift : place * k ≤ 62
@@ -85,23 +84,23 @@ module _ {k n m place : ℕ} {t : List Step} {len from v : ℕ} {whole : List St
         room = omega (arith, g.room, room_is);
       }
 
-  pub turned : (t1 : List Step) (len1 : ℕ) → t1 ≡ sets t len (one_digit k here len from v) → len1 ≡ len + length (one_digit k here len from v) → Turning k n (place - 1) t1 len1 len1 (v * m + here) whole total
-  turned t1 len1 et el =
+  pub turned : (t1 : List Step) (len1 number1 v1 : ℕ) → t1 ≡ sets t len (one_digit k here len from v) → len1 ≡ len + length (one_digit k here len from v) → number1 ≡ len1 → v1 ≡ v * 2 ^ k + here → Turning k n (place - 1) t1 len1 number1 v1 whole total
+  turned t1 len1 number1 v1 et el en ev =
       let one : List Step = one_digit k here len from v in
+      let rest : List Step = digits_from k n (place - 1) len1 len1 (v * 2 ^ k + here) in
       let w : v * m + here ≡ v * 2 ^ k + here = ap (λ (x : ℕ). v * x + here) is in
-      let rest : List Step = digits_from k n (place - 1) len1 len1 (v * m + here) in
-      let e : digits_from k n place len from v ≡ one ++ rest = ap (λ (x : ℕ). digits_from k n x len from v) down ∙ digits_by k n m (place - 1) len from v len1 is el in
+      let e : digits_from k n place len from v ≡ one ++ rest =
+      ap (λ (x : ℕ). digits_from k n x len from v) down ∙ digits_by k n m (place - 1) len from v len1 is el ∙ ap (λ (x : ℕ). one ++ digits_from k n (place - 1) len1 len1 x) w in
       let a : length one ≤ k + 1 = one_at_most k here len from v in
       let b : v * 1 ≤ v * 2 ^ k = mul-le-mul_left v (pow_pos k) in
       let c : place * k ≡ (place - 1) * k + k = ap (λ (x : ℕ). x * k) down ∙ suc-mul (place - 1) k in
+      rw (en, ev)
       record {
         table = ap (λ (x : List Step). sets x len1 rest) et ∙ ap (λ (x : ℕ). sets (sets t len one) x rest) el ∙ sym (sets_append t len one rest) ∙ sym (ap (sets t len) e) ∙ g.table;
         count = omega (arith, g.count, ap length e, length-append one rest);
-        long = omega (arith, g.long, ap length et, length-sets t len one);
         room = omega (arith, g.room, room_is);
-        before = omega arith;
         positive = omega (arith, g.positive, mul-one v);
-        value = w ∙ sym value_is;
+        value = sym value_is;
         shift = omega (arith, g.shift);
       }
 
@@ -124,7 +123,7 @@ pub record Listed (k n m : ℕ) (was t : List Step) (len place : ℕ) : Type 0 w
   pub top : place ≡ lower k n
 
 pub listed : {k n m : ℕ} {was t : List Step} {len high : ℕ} → m ≡ 2 ^ k → m ≤ n → t ≡ sets was 0 (count_from (m - 1 - 1) 0) → len ≡ m - 1 - 1 → high < 64 → 2 ^ high ≤ n → n < 2 * 2 ^ high → Listed k n m was t len (high / k)
-listed {k} {n} {m} {was} {t} {len} {high} is above table count b l h = record { is = is; above = above; table = table; count = count; top = ap (λ (x : ℕ). x / k) (sym (top_is high n b l h)) }
+listed {k} {n} {m} {was} {t} {len} {high} is above table count b l h = record { is = is; above = above; table = table; count = count; top = ap (λ (x : ℕ). x / k) (sym (top_is high n l h)) }
 
 module _ {k n m : ℕ} {was t : List Step} {len place : ℕ} (l : Listed k n m was t len place) where
   abbrev from : ℕ → ℕ → List Step
@@ -160,8 +159,11 @@ module _ {k n m : ℕ} {was t : List Step} {len place : ℕ} (l : Listed k n m w
   pub top_positive : 1 ≤ k → n < 2 ^ 63 → 1 ≤ n / 2 ^ (place * k)
   top_positive a c = subst (λ (x : ℕ). 1 ≤ n / 2 ^ (x * k)) (sym l.top) (the_top k n a above c).positive
 
-  pub turning_first : 1 ≤ k → k ≤ 5 → n < 2 ^ 63 → 128 ≤ length was → Turning k n place t len (n / 2 ^ (place * k) - 1) (n / 2 ^ (place * k)) (sets t len (from place len)) (len + length (from place len))
-  turning_first a b c d =
+  pub top_small : 1 ≤ k → n < 2 ^ 63 → n / 2 ^ (place * k) < 2 ^ k
+  top_small a c = subst (λ (x : ℕ). n / 2 ^ (x * k) < 2 ^ k) (sym l.top) (the_top k n a above c).below
+
+  pub turning_first : 1 ≤ k → k ≤ 5 → n < 2 ^ 63 → Turning k n place t len (n / 2 ^ (place * k) - 1) (n / 2 ^ (place * k)) (sets t len (from place len)) (len + length (from place len))
+  turning_first a b c =
       let y = the_top k n a above c in
       let tb : top n ≤ 62 = top_below (top n) n (top_low n (omega (arith, above, pow_pos k))) c in
       let p : place * k ≡ lower k n * k = ap (λ (x : ℕ). x * k) l.top in
@@ -169,9 +171,7 @@ module _ {k n m : ℕ} {was t : List Step} {len place : ℕ} (l : Listed k n m w
       record {
         table = refl;
         count = refl;
-        long = omega (arith, ap length list_is, length-sets was 0 (count_from len 0));
         room = omega (arith, len_is, room_all k place a b (omega (arith, y.within)));
-        before = omega (arith, len_is, y.below);
         positive = top_positive a c;
         value = refl;
         shift = omega (arith, y.within);

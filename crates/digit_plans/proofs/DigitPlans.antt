@@ -5,9 +5,10 @@ use Rattle.std.proofs.lemmas.Nat.{mod_below, le-div}
 use Rattle.std.proofs.lemmas.Bool.{eq-eqb, ne_eqb, lt-ltb, le-ltb, cases_eq, cases_lt}
 use Rattle.plans.specs.declared.step.Step.{Step}
 use Rattle.plans.specs.Chain.{value_at, Chain}
-use Rattle.planning.specs.Bits.{top}
+use Rattle.bits.specs.Bits.{top}
 use Rattle.planning.specs.Planning.{step}
-use Rattle.planning.proofs.Powers.{top_low, top_max, top_high, top_less}
+use Rattle.bits.proofs.Tops.{top_low, top_max, top_high}
+use Rattle.planning.proofs.Powers.{top_less}
 use Rattle.planning.proofs.Pushing.{Ends, ends_here, chain_from_ends}
 use Rattle.digit_plans.specs.Digits.{count_from, doubles, digit, one_digit, digits_from, lower, leading, digits_plan, zeros, digits_length}
 use Rattle.digit_plans.proofs.Counting.{count_length, counted_all}
@@ -137,8 +138,8 @@ the_top k n a h b =
     let one : 1 ≤ n = omega (arith, pow_pos k) in
     let e : t * k + top n % k ≡ top n = div-add-mod' (top n) k in
     let r : top n % k < k = mod_below (top n) k a in
-    let up : n < 2 * 2 ^ top n = top_high n (omega arith) in
-    let kt : k ≤ top n = top_max k n (omega arith) h in
+    let up : n < 2 * 2 ^ top n = top_high n in
+    let kt : k ≤ top n = top_max k n h in
     let le : t * k ≤ top n = omega arith in
     let p : 2 ^ (t * k) ≤ 2 ^ top n = pow_mono le in
     let l : suc (top n) ≤ k + t * k = omega arith in
@@ -173,7 +174,7 @@ digits_length_lem k n a one b =
     let e : lower k n ≡ suc p = omega arith in
     let dn : d < 2 ^ 64 = omega (arith, shr_le n (lower k n * k)) in
     let low = top_low d y.positive in
-    let high = top_high d dn in
+    let high = top_high d in
     let td = top_less k d y.positive y.below in
     let f = first_length k n p (2 ^ k - 2) (d - 1) d (top d) low high td in
     let f1 = subst (λ (x : ℕ). length (digits_from k n x (2 ^ k - 2) (d - 1) d) + zeros k n x + (k - 1 - top d) ≡ k * x + x) (sym e) f in

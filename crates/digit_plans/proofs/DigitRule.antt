@@ -4,7 +4,7 @@ use native.Mathlib.Nat.{div-eq_of_lt, add-div_right}
 use lib.Pow.{shr_le}
 use Rattle.std.proofs.lemmas.Nat.{div-mul-add, mod-mul-add}
 use Rattle.plans.specs.declared.step.Step.{Step}
-use Rattle.planning.specs.Bits.{top}
+use Rattle.bits.specs.Bits.{top}
 use Rattle.planning.proofs.Powers.{top_less, top_shifted}
 use Rattle.digit_plans.specs.Digits.{count_from, digit, one_digit, digits_from, lower, leading, digits_plan, DigitsRule}
 use Rattle.digit_plans.proofs.Counting.{count_length}

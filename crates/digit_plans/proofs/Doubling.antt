@@ -1,5 +1,5 @@
 -- The doublings for a digit: as the loop writes them, their number, and the chain that they go on. Assumes nothing.
-use Rattle.std.proofs.Common.{◌≡◌, ℕ, zero, suc, ◌+◌, ◌-◌, ◌*◌, ◌^◌, ◌<◌, ◌≤◌, true, false, ltb, List, [], ◌∷◌, ◌++◌, length, set, sym, refl, ap, ◌∙◌, subst, ⊎_elim, append_assoc, append-nil, mul_assoc, add-mul, mul-le-mul_left, pow-suc, mul-one, add-one, arith, pow_pos, pow_mono}
+use Rattle.std.proofs.Common.{◌≡◌, ℕ, zero, suc, ◌+◌, ◌-◌, ◌*◌, ◌^◌, ◌<◌, ◌≤◌, true, false, ltb, List, [], ◌∷◌, ◌++◌, length, set, sym, refl, ap, ◌∙◌, subst, ⊎_elim, append_assoc, append-nil, mul_assoc, add-mul, mul-le-mul_left, mul-le-mul_right, one-mul, pow-suc, mul-one, add-one, arith, pow_pos, pow_mono}
 use lib.Seq.{sets}
 use Rattle.std.proofs.lemmas.Bool.{lt-ltb, le-ltb, cases_lt}
 use Rattle.plans.specs.declared.step.Step.{Step}
@@ -31,59 +31,69 @@ pub record Doubling (width value from at : ℕ) (was : List Step) (i : ℕ) (t :
   pub table : sets t len (doubles (2 ^ width) (width - i) len source v) ≡ sets was at (doubles (2 ^ width) width at from value)
   pub count : len + length (doubles (2 ^ width) (width - i) len source v) ≡ at + length (doubles (2 ^ width) width at from value)
   pub most : len ≤ at + i
-  pub earlier : source ≤ 128
+  pub last : 1 ≤ i → 2 ^ width ≤ v → source ≡ len
   pub positive : 1 ≤ v
   pub whole : v * 2 ^ (width - i) ≡ value * 2 ^ width
 
 pub at_most_times : (v i : ℕ) → v ≤ v * 2 ^ i
 at_most_times v i = let p = pow_pos i in let a : v * 1 ≤ v * 2 ^ i = mul-le-mul_left v p in omega (arith, mul-one v)
 
-module _ {width value from at : ℕ} {was : List Step} {i : ℕ} {t : List Step} {len source v : ℕ} (more : i < width) (small : width ≤ 5) (room : at + width ≤ 128) (g : Doubling width value from at was i t len source v) where
+module _ {width value from at : ℕ} {was : List Step} {i : ℕ} {t : List Step} {len source v : ℕ} (more : i < width) (g : Doubling width value from at was i t len source v) where
   left_is : width - i ≡ suc (width - (i + 1))
   left_is = omega arith
 
   value_is : (v + v) * 2 ^ (width - (i + 1)) ≡ value * 2 ^ width
   value_is = sym (double_value v (width - (i + 1))) ∙ ap (λ (x : ℕ). v * 2 ^ x) (sym left_is) ∙ g.whole
 
-  pub twice_fits : value * 2 ^ width < 2 ^ 63 → v + v < 2 ^ 63
-  twice_fits h = omega (arith, value_is, at_most_times (v + v) (width - (i + 1)))
-
-  pub doubling_low : (t1 : List Step) (len1 s1 : ℕ) → t1 ≡ t → len1 ≡ len → s1 ≡ v + v - 1 → v + v < 2 ^ width → 2 ^ width ≤ 32 → Doubling width value from at was (i + 1) t1 len1 s1 (v + v)
-  doubling_low t1 len1 s1 et el es h b =
+  pub doubling_low : (t1 : List Step) (len1 s1 v1 : ℕ) → t1 ≡ t → len1 ≡ len → s1 ≡ v + v - 1 → v1 ≡ v + v → v + v < 2 ^ width → Doubling width value from at was (i + 1) t1 len1 s1 v1
+  doubling_low t1 len1 s1 v1 et el es ev h =
       let d : doubles (2 ^ width) (width - i) len source v ≡ doubles (2 ^ width) (width - (i + 1)) len (v + v - 1) (v + v) =
       ap (λ (x : ℕ). doubles (2 ^ width) x len source v) left_is ∙ doubles_low (2 ^ width) (width - (i + 1)) len source v h in
-      rw (et, el, es)
+      rw (et, el, es, ev)
       record {
         table = sym (ap (sets t len) d) ∙ g.table;
         count = omega (arith, ap length d, g.count);
         most = omega (arith, g.most);
-        earlier = omega arith;
+        last = λ _ b. absurd (let no : ⊥ = omega arith in no);
         positive = omega (arith, g.positive);
         whole = value_is;
       }
 
-  pub doubling_high : (t1 : List Step) (len1 s1 : ℕ) → t1 ≡ set t len (step source source (v + v)) → len1 ≡ len + 1 → s1 ≡ len + 1 → 2 ^ width ≤ v + v → Doubling width value from at was (i + 1) t1 len1 s1 (v + v)
-  doubling_high t1 len1 s1 et el es h =
+  pub doubling_high : (t1 : List Step) (len1 s1 v1 : ℕ) → t1 ≡ set t len (step source source (v + v)) → len1 ≡ len + 1 → s1 ≡ len + 1 → v1 ≡ v + v → 2 ^ width ≤ v + v → Doubling width value from at was (i + 1) t1 len1 s1 v1
+  doubling_high t1 len1 s1 v1 et el es ev h =
       let x : Step = step source source (v + v) in
       let rest : List Step = doubles (2 ^ width) (width - (i + 1)) (len + 1) (len + 1) (v + v) in
       let d : doubles (2 ^ width) (width - i) len source v ≡ x ∷ rest =
       ap (λ (x : ℕ). doubles (2 ^ width) x len source v) left_is ∙ doubles_high (2 ^ width) (width - (i + 1)) len source v h in
-      rw (et, el, es)
+      rw (et, el, es, ev)
       record {
         table = ap (λ (k : ℕ). sets (set t len x) k rest) (add-one len) ∙ sym (ap (sets t len) d) ∙ g.table;
         count = omega (arith, ap length d, g.count);
         most = omega (arith, g.most);
-        earlier = omega (arith, g.most);
+        last = λ _ _. refl;
         positive = omega (arith, g.positive);
         whole = value_is;
       }
 
-pub doubling_done : {width value from at : ℕ} {was : List Step} {i : ℕ} {t : List Step} {len source v : ℕ} → width ≤ i → Doubling width value from at was i t len source v
-    → (len ≡ at + length (doubles (2 ^ width) width at from value)) × (t ≡ sets was at (doubles (2 ^ width) width at from value))
-doubling_done {width} {value} {from} {at} {was} {i} {t} {len} {source} {v} h g =
+-- after the last doubling the table holds them all, and the value that they make is the last one
+pub record Doubled (width value from at : ℕ) (was t : List Step) (len source v : ℕ) : Type 0 where
+  pub count : len ≡ at + length (doubles (2 ^ width) width at from value)
+  pub after : t ≡ sets was at (doubles (2 ^ width) width at from value)
+  pub number : source ≡ len
+  pub made : v ≡ value * 2 ^ width
+
+pub doubling_done : {width value from at : ℕ} {was : List Step} {i : ℕ} {t : List Step} {len source v : ℕ} → 1 ≤ width → 1 ≤ value → width ≤ i → Doubling width value from at was i t len source v → Doubled width value from at was t len source v
+doubling_done {width} {value} {from} {at} {was} {i} {t} {len} {source} {v} some positive h g =
     let e : width - i ≡ 0 = omega arith in
     let d : doubles (2 ^ width) (width - i) len source v ≡ [] = ap (λ (x : ℕ). doubles (2 ^ width) x len source v) e ∙ doubles_end (2 ^ width) len source v in
-    (omega (arith, ap length d, g.count), sym (ap (sets t len) d) ∙ g.table)
+    let w : v ≡ value * 2 ^ width = sym (mul-one v) ∙ ap (λ (x : ℕ). v * 2 ^ x) (sym e) ∙ g.whole in
+    let l : 1 * 2 ^ width ≤ value * 2 ^ width = mul-le-mul_right (2 ^ width) positive in
+    record {
+      count = omega (arith, ap length d, g.count);
+      after = sym (ap (sets t len) d) ∙ g.table;
+      number = g.last (omega arith) (omega (arith, one-mul (2 ^ width)));
+      made = w;
+    }
 
 -- how many of the doublings are steps
 pub length_all : (m i at from v : ℕ) → m ≤ v + v → length (doubles m i at from v) ≡ i

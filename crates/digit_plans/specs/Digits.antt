@@ -1,7 +1,7 @@
 -- The plan by digits of k bits, m = 2 ^ k being how many digits there are. Assumes nothing.
 use Rattle.std.specs.Prelude.{◌≡◌, ℕ, zero, suc, ◌+◌, ◌-◌, ◌*◌, ◌/◌, ◌%◌, ◌^◌, ◌<◌, ◌≤◌, Bool, cond, ◌&&◌, List, [], ◌∷◌, ◌++◌, length, ◌==◌, nat_le, nat_lt}
 use Rattle.plans.specs.declared.step.Step.{Step}
-use Rattle.planning.specs.Bits.{top}
+use Rattle.bits.specs.Bits.{top}
 use Rattle.planning.specs.Planning.{step}
 
 -- a digit has 1 to 5 bits

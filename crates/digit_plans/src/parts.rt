@@ -3,91 +3,82 @@ ghost use Rattle.std.specs.Prelude.{◌≡◌, ◌+◌, ◌-◌, ◌*◌, ◌^�
 ghost use Rattle.std.proofs.lemmas.List.Edits.{sets};
 ghost use Rattle.digit_plans.specs.Digits.{count_from, doubles, one_digit};
 
-use crate::widths::digit_count;
-use plans::Step;
+use crate::widths::Width;
+use planning::{Reached, StepWriter};
 
-// Writes the steps from 1 up to `last`, each from the one before and a_0. Answers how many they are.
-pub(crate) fn write_list(last: u64, table: &mut [Step]) -> usize
+// A value of the list 1, 2, 3 and on, and its number there.
+pub(crate) fn listed(value: u64) -> Reached
+    requires low { 1 ≤ value }
+    requires high { value < 2 ^ 16 }
+    ensures number { result.number ≡ value - 1 }
+    ensures value { result.value ≡ value }
+{
+    Reached {
+        number: (value - 1) as u16,
+        value,
+    }
+}
+
+// Writes the list up to `last`: each value is made from the one before and a_0.
+pub(crate) fn write_list(steps: &mut StepWriter<'_>, last: u64)
+    requires first { steps.old.len ≡ 0 }
     requires low { 1 ≤ last }
     requires high { last < 32 }
-    requires places { 128 ≤ length table.old }
-    ensures count { result ≡ last - 1 }
-    ensures after { table.new ≡ sets table.old 0 (count_from (last - 1) 0) }
+    ensures same_table { steps.new.table.ghost_name ≡ steps.old.table.ghost_name }
+    ensures count { steps.new.len ≡ last - 1 }
+    ensures after { steps.new.table.now ≡ sets steps.old.table.now 0 (count_from (last - 1) 0) }
 {
-    let len = last as usize - 1;
-    for i in 0..len {
-        table[i] = Step {
-            j: i as u16,
-            k: 0,
-            value: i as u64 + 2,
+    let mut at = Reached::ONE;
+    for _value in 1..last {
+        at = steps.add(at, Reached::ONE).unwrap();
+    }
+}
+
+// Doubles a value once for each bit of a digit, and answers what comes of it. A doubling below the number of digits is no step, its value being in the list.
+fn write_doubles(steps: &mut StepWriter<'_>, width: Width, from: Reached) -> Reached
+    requires positive { 1 ≤ from.value }
+    requires bounded { from.value * 2 ^ width.bits < 2 ^ 63 }
+    requires room { steps.old.len + width.bits ≤ 128 }
+    ensures same_table { steps.new.table.ghost_name ≡ steps.old.table.ghost_name }
+    ensures count { steps.new.len ≡ steps.old.len + length (doubles (2 ^ width.bits) width.bits steps.old.len from.number from.value) }
+    ensures within { steps.new.len ≤ steps.old.len + width.bits }
+    ensures after { steps.new.table.now ≡ sets steps.old.table.now steps.old.len (doubles (2 ^ width.bits) width.bits steps.old.len from.number from.value) }
+    ensures number { result.number ≡ steps.new.len }
+    ensures value { result.value ≡ from.value * 2 ^ width.bits }
+{
+    let m = width.digit_count();
+    let mut source = from;
+    for _bit in 0..width.bits {
+        let twice = source.value + source.value;
+        source = if twice < m {
+            listed(twice)
+        } else {
+            steps.add(source, source).unwrap()
         };
     }
-    len
+    source
 }
 
-// Doubles the value number `from` once for each bit of a digit, and writes the steps from place `at` on. Answers how many steps there are then.
-fn write_doubles(width: u32, value: u64, from: usize, at: usize, table: &mut [Step]) -> usize
-    requires low { 1 ≤ width }
-    requires high { width ≤ 5 }
-    requires positive { 1 ≤ value }
-    requires bounded { value * 2 ^ width < 2 ^ 63 }
-    requires earlier { from ≤ at }
-    requires room { at + width ≤ 128 }
-    requires places { 128 ≤ length table.old }
-    ensures count { result ≡ at + length (doubles (2 ^ width) width at from value) }
-    ensures within { result ≤ at + width }
-    ensures after { table.new ≡ sets table.old at (doubles (2 ^ width) width at from value) }
-{
-    let m = digit_count(width);
-    let mut len = at;
-    let mut source = from;
-    let mut v = value;
-    for i in 0..width {
-        v += v;
-        if v < m {
-            source = v as usize - 1;
-        } else {
-            table[len] = Step {
-                j: source as u16,
-                k: source as u16,
-                value: v,
-            };
-            len += 1;
-            source = len;
-        }
-    }
-    len
-}
-
-// Writes the steps for one digit from place `at` on: the doublings, and the digit added unless it is 0. Answers how many steps there are then.
+// Writes the steps for one digit: the doublings, and the digit added unless it is 0. Answers the value that they make.
 pub(crate) fn write_digit(
-    width: u32,
+    steps: &mut StepWriter<'_>,
+    width: Width,
+    from: Reached,
     digit: u64,
-    value: u64,
-    from: usize,
-    at: usize,
-    table: &mut [Step],
-) -> usize
-    requires low { 1 ≤ width }
-    requires high { width ≤ 5 }
-    requires digit { digit < 2 ^ width }
-    requires positive { 1 ≤ value }
-    requires bounded { value * 2 ^ width + digit < 2 ^ 63 }
-    requires earlier { from ≤ at }
-    requires room { at + width < 128 }
-    requires places { 128 ≤ length table.old }
-    ensures count { result ≡ at + length (one_digit width digit at from value) }
-    ensures after { table.new ≡ sets table.old at (one_digit width digit at from value) }
+) -> Reached
+    requires digit { digit < 2 ^ width.bits }
+    requires positive { 1 ≤ from.value }
+    requires bounded { from.value * 2 ^ width.bits + digit < 2 ^ 63 }
+    requires room { steps.old.len + width.bits < 128 }
+    ensures same_table { steps.new.table.ghost_name ≡ steps.old.table.ghost_name }
+    ensures count { steps.new.len ≡ steps.old.len + length (one_digit width.bits digit steps.old.len from.number from.value) }
+    ensures after { steps.new.table.now ≡ sets steps.old.table.now steps.old.len (one_digit width.bits digit steps.old.len from.number from.value) }
+    ensures number { result.number ≡ steps.new.len }
+    ensures value { result.value ≡ from.value * 2 ^ width.bits + digit }
 {
-    let len = write_doubles(width, value, from, at, table);
+    let shifted = write_doubles(steps, width, from);
     if digit == 0 {
-        return len;
+        return shifted;
     }
-    let sum = value * digit_count(width) + digit;
-    table[len] = Step {
-        j: len as u16,
-        k: (digit - 1) as u16,
-        value: sum,
-    };
-    len + 1
+    steps.add(shifted, listed(digit)).unwrap()
 }

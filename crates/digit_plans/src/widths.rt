@@ -1,24 +1,43 @@
 //! The widths of a digit.
 ghost use Rattle.std.specs.Prelude.{◌≡◌, ◌^◌, ◌≤◌};
-ghost use Rattle.digit_plans.specs.Digits.{is_width};
+
+use refusals::Refusal;
 
 /// The most bits of a digit.
 pub const MOST_WIDTH: u32 = 5;
 
-// Whether a digit can have so many bits.
-pub(crate) fn is_width(width: u32) -> bool
-    ensures { result ≡ is_width width }
-{
-    width >= 1 && width <= MOST_WIDTH
+// How many bits a digit has, from 1 to 5.
+#[derive(Clone, Copy)]
+pub(crate) struct Width {
+    pub(crate) bits: u32,
+    ghost low: { 1 ≤ bits },
+    ghost high: { bits ≤ 5 },
 }
 
-// How many digits there are of that width.
-pub(crate) fn digit_count(width: u32) -> u64
-    requires low { 1 ≤ width }
-    requires high { width ≤ 5 }
-    ensures is { result ≡ 2 ^ width }
-    ensures low { 2 ≤ result }
-    ensures high { result ≤ 32 }
-{
-    1u64 << width
+impl TryFrom<u32> for Width {
+    ghost use Rattle.std.specs.Prelude.{◌≡◌, false, MatchResult};
+    ghost use Rattle.refusals.specs.declared.refusal.Refusal.TheVariants.{Method};
+    ghost use Rattle.digit_plans.specs.Digits.{is_width};
+
+    type Error = Refusal;
+
+    ghost try_from_gives = { λ bits r. MatchResult r (λ width. width.bits ≡ bits) (λ e. (e ≡ Method) × (is_width bits ≡ false)) };
+
+    fn try_from(bits: u32) -> Result<Width, Refusal> {
+        if !(1..=MOST_WIDTH).contains(&bits) {
+            return Err(Refusal::Method);
+        }
+        Ok(Width { bits })
+    }
+}
+
+impl Width {
+    // How many digits of this width there are.
+    pub(crate) fn digit_count(self) -> u64
+        ensures is { result ≡ 2 ^ self.bits }
+        ensures low { 2 ≤ result }
+        ensures high { result ≤ 32 }
+    {
+        1 << self.bits
+    }
 }

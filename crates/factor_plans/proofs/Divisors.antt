@@ -1,5 +1,5 @@
 -- The smallest divisor above 1. Assumes nothing.
-use Rattle.std.proofs.Common.{◌≡◌, ℕ, zero, suc, ◌+◌, ◌*◌, ◌/◌, ◌%◌, ◌<◌, ◌≤◌, true, false, eqb, ltb, Some, None, sym, refl, ap, ◌∙◌, subst, ⊎_elim, mod-eq_of_lt, mul_comm, div-lt_iff_lt-mul, mul-le-mul, div-add-mod', le-div_iff_mul-le, arith}
+use Rattle.std.proofs.Common.{◌≡◌, ℕ, zero, suc, ◌+◌, ◌*◌, ◌/◌, ◌%◌, ◌<◌, ◌≤◌, true, false, eqb, ltb, Some, None, Option, MatchOption, unwrap_or, sym, refl, ap, ◌∙◌, subst, ⊎_elim, mod-eq_of_lt, mul_comm, mul-le-mul, div-add-mod', arith}
 use native.Mathlib.Nat.{mod_self, mul-mod_right, div-eq_of_eq-mul_right}
 use Rattle.std.proofs.lemmas.Bool.{eqb-true, eqb-false, lt-ltb, le-ltb, cases_lt, cases_order, cond_both}
 use Rattle.factor_plans.specs.Divisors.{Least, divisor_from, least_divisor, least_of}
@@ -8,7 +8,7 @@ use Rattle.factor_plans.specs.Divisors.{Least, divisor_from, least_divisor, leas
 abbrev pub NoneBelow : ℕ → ℕ → Type 0
 NoneBelow n d = (m : ℕ) → 1 < m → m < d → n % m ≡ 0 → ⊥
 
-pub none_more : (n d : ℕ) → NoneBelow n d → (n % d ≡ 0 → ⊥) → NoneBelow n (d + 1)
+none_more : (n d : ℕ) → NoneBelow n d → (n % d ≡ 0 → ⊥) → NoneBelow n (d + 1)
 none_more n d b e m l h z =
     ⊎_elim (λ (k : m < d). b m l k z) (λ (k : d ≤ m). let q : m ≡ d = omega arith in e (sym (ap (λ (x : ℕ). n % x) q) ∙ z)) (cases_lt m d)
 
@@ -44,9 +44,6 @@ least_some n p h a =
     let t : ltb 1 n ≡ true = lt-ltb _ _ h in
     rw (t, e) refl
 
-pub least_none : (n : ℕ) → n < 2 → None ≡ least_of n
-least_none n h = let t : ltb 1 n ≡ false = le-ltb _ _ (omega arith) in rw t refl
-
 -- n = p·q with its smallest divisor p
 module _ (n p : ℕ) (pos : 1 ≤ n) (a : Least n p) where
   pub divisor_le : p ≤ n
@@ -76,17 +73,9 @@ cofactor n m zero l h q = omega arith
 cofactor n m (suc zero) l h q = omega arith
 cofactor n m (suc (suc e)) l h q = omega arith
 
--- a number whose quotient of n is not below it is below n
-pub below_root : (n d : ℕ) → 1 < d → d ≤ n / d → d < n
-below_root n d h l =
-    let w : d * d ≤ n = (le-div_iff_mul-le {k = d} (omega arith)).0 l in
-    let two : 2 * d ≤ d * d = mul-le-mul {n₁ = 2} h (omega arith) in
-    omega arith
-
--- where no divisor is below d and n / d is, n is its own smallest divisor
-pub least_past : (n d : ℕ) → 1 < n → 0 < d → n / d < d → NoneBelow n d → Least n n
-least_past n d h pos past b =
-    let big : n < d * d = (div-lt_iff_lt-mul {k = d} pos).0 past in
+-- where no divisor is below d and n is below d·d, n is its own smallest divisor
+least_past : (n d : ℕ) → 1 < n → n < d * d → NoneBelow n d → Least n n
+least_past n d h big b =
     least_itself n h
     (λ m l k z.
     let e : ℕ = n / m in
@@ -98,3 +87,10 @@ least_past n d h pos past b =
     (λ (i : d ≤ e). let w : d * d ≤ e * m = mul-le-mul i j in omega arith)
     (cases_lt e d))
     (cases_lt m d))
+
+-- the first divisor from 2 up to the root of n, and n where there is none
+pub least_found : (n root : ℕ) (r : Option ℕ) → 1 < n → n < (root + 1) * (root + 1)
+    → MatchOption r (NoneBelow n (root + 1)) (λ d. (2 ≤ d) × (d < root + 1) × (n % d ≡ 0) × NoneBelow n d)
+    → Least n (unwrap_or r n)
+least_found n root (Some d) h big f = record { above = f.0; divides = f.2; least = f.3 }
+least_found n root None h big f = least_past n (root + 1) h big f

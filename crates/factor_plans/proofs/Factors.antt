@@ -1,13 +1,14 @@
 -- The plan of the factor method: its rule, its length, and how it is written. Assumes nothing.
-use Rattle.std.proofs.Common.{◌≡◌, ℕ, zero, suc, ◌+◌, ◌-◌, ◌*◌, ◌/◌, ◌%◌, ◌^◌, ◌<◌, ◌≤◌, true, false, eqb, leb, List, [], ◌∷◌, ◌++◌, map, length, drop, set, sym, refl, ap, ◌∙◌, subst, ⊎_elim, add-zero, add-suc, mul_assoc, mul_comm, mul-le-mul, suc-add, arith, length-append}
+use Rattle.std.proofs.Common.{◌≡◌, ℕ, zero, suc, ◌+◌, ◌-◌, ◌*◌, ◌/◌, ◌%◌, ◌^◌, ◌<◌, ◌≤◌, true, false, eqb, leb, List, [], ◌∷◌, ◌++◌, map, length, drop, set, sym, refl, ap, ◌∙◌, subst, ⊎_elim, add-zero, add-suc, add-mul, mul_assoc, mul_comm, mul-le-mul, suc-add, arith, length-append}
 use lib.ListN.{length-map}
 use lib.Seq.{sets, sets-eq}
 use Rattle.std.proofs.lemmas.List.{length_push, map-append}
 use Rattle.std.proofs.lemmas.Bool.{le-leb, lt-leb, eq-eqb, ne_eqb, cases_lt, cases_eq}
 use Rattle.plans.specs.declared.step.Step.{Step}
-use Rattle.planning.specs.Bits.{top}
+use Rattle.bits.specs.Bits.{top}
 use Rattle.planning.specs.Planning.{step}
-use Rattle.planning.proofs.Powers.{top_low, top_max, top_below, top_mono, top_product}
+use Rattle.bits.proofs.Tops.{top_low, top_max}
+use Rattle.planning.proofs.Powers.{top_below, top_mono, top_product}
 use Rattle.factor_plans.specs.Divisors.{Least, least_divisor}
 use Rattle.factor_plans.specs.Factor.{shifted, and_one, followed, factor_body, factor_with, factor_plan, FactorRule}
 use Rattle.factor_plans.proofs.Divisors.{divisor_least, least_same, divisor_le, divisor_times, quotient_low, quotient_less, quotient_is}
@@ -105,7 +106,7 @@ even_least n p a z = ⊎_elim (λ (k : p ≡ 2). k) (λ (k : p ≡ 2 → ⊥). a
 prime_short : (n : ℕ) → Least n n → n < 2 ^ 64 → Short (n - 1) → Short n
 prime_short n a b i =
     let h : 1 < n = a.above in
-    let one : 1 ≤ top n = top_max 1 n b h in
+    let one : 1 ≤ top n = top_max 1 n h in
     let m : top (n - 1) ≤ top n = top_mono (n - 1) n (omega arith) (omega arith) b in
     let g = prime_length n a in
     let even : n % 2 ≡ 0 → length (factor_plan n) + 1 ≤ 2 * top n = λ z. omega (arith, even_least n n a z, ap length (factor_none (n - 1) (omega (arith, even_least n n a z)))) in
@@ -199,11 +200,46 @@ split_table t u w n p base scale len a h l eu ew =
     ∙ sets_append t base (map (shifted base scale) s) (map (shifted (base + len) (scale * p)) r)
     ∙ rw (k, sym eu) refl)
 
+-- the same, in the words of a call that has written the plan of n - 1 and adds its last step
+pub prime_stands : (t u v : List Step) (n at number scale len k x : ℕ) → 1 ≤ n → Least n n → number ≡ at → u ≡ sets t at (map (shifted number scale) (factor_plan (n - 1)))
+    → len ≡ at + length (factor_plan (n - 1)) → k ≡ len → x ≡ (n - 1) * scale → v ≡ set u len (step k number (x + scale))
+    → (v ≡ sets t at (map (shifted number scale) (factor_plan n))) × (x + scale ≡ n * scale)
+prime_stands t u v n at number scale len k x pos a e eu el ek ex ev =
+    let s : List Step = factor_plan (n - 1) in
+    let eu' : u ≡ placed t at scale (n - 1) = eu ∙ ap (λ (y : ℕ). sets t at (map (shifted y scale) s)) e in
+    let one : n - 1 + 1 ≡ n = omega arith in
+    let value : x + scale ≡ n * scale = omega (arith, add-mul (n - 1) 1 scale, ap (λ (y : ℕ). y * scale) one) in
+    let r = prime_table t u n at scale (length s) a refl eu' in
+    let k' : k ≡ at + length s = ek ∙ el in
+    (ev ∙ rw (e, k', el, value) r, value)
+
+-- and that has written the plans of p and of n / p
+pub split_stands : (t u w : List Step) (n p at number scale len number2 value2 : ℕ) → 1 ≤ n → Least n p → p < n → number ≡ at → u ≡ sets t at (map (shifted number scale) (factor_plan p))
+    → len ≡ at + length (factor_plan p) → number2 ≡ len → value2 ≡ p * scale → w ≡ sets u len (map (shifted number2 value2) (factor_plan (n / p)))
+    → w ≡ sets t at (map (shifted number scale) (factor_plan n))
+split_stands t u w n p at number scale len number2 value2 pos a h e eu el en ev ew =
+    let s : List Step = factor_plan p in
+    let eu' : u ≡ placed t at scale p = eu ∙ ap (λ (y : ℕ). sets t at (map (shifted y scale) s)) e in
+    let number' : number2 ≡ at + length s = en ∙ el in
+    let value' : value2 ≡ scale * p = ev ∙ mul_comm p scale in
+    let ew' : w ≡ placed u (at + length s) (scale * p) (n / p) = ew ∙ rw (el, number', value') refl in
+    rw e (split_table t u w n p at scale (length s) a h refl eu' ew')
+
+-- the value of the whole product
+pub split_value : (n p scale value2 : ℕ) → 1 ≤ n → Least n p → value2 ≡ p * scale → n / p * value2 ≡ n * scale
+split_value n p scale value2 pos a e =
+    ap (λ (x : ℕ). n / p * x) e ∙ sym (mul_assoc (n / p) p scale) ∙ ap (λ (x : ℕ). x * scale) (mul_comm (n / p) p ∙ divisor_times n p pos a)
+
 -- the whole table after the plan of n was written from its front
 pub whole_table : (t s : List Step) → length s ≤ length t → sets t 0 (map (shifted 0 1) s) ≡ s ++ drop (length s) t
 whole_table t s h =
     let z : 0 + length s ≡ length s = omega arith in
     ap (sets t 0) (shift_none s) ∙ sets-eq s t 0 (omega arith) ∙ ap (λ (k : ℕ). s ++ drop k t) z
+
+-- the plan of n, written from the front of a table
+pub plan_written : (n at len : ℕ) (was start now : List Step) → length (factor_plan n) ≤ length was → start ≡ was → at ≡ 0 → now ≡ sets start at (map (shifted 0 1) (factor_plan n)) → len ≡ at + length (factor_plan n)
+    → (len ≡ length (factor_plan n)) × (now ≡ factor_plan n ++ drop (length (factor_plan n)) was)
+plan_written n at len was start now h s a e l = (omega arith, e ∙ rw (s, a) (whole_table was (factor_plan n) h))
 
 -- ---- what a call knows of the numbers that it hands on
 

@@ -1,8 +1,12 @@
 -- The factor method. Assumes nothing.
-use Rattle.std.specs.Prelude.{◌≡◌, ℕ, zero, suc, ◌+◌, ◌-◌, ◌*◌, ◌/◌, ◌<◌, cond, List, [], ◌∷◌, ◌++◌, map, length, ◌==◌, nat_le}
+use Rattle.std.specs.Prelude.{◌≡◌, ℕ, zero, suc, ◌+◌, ◌-◌, ◌*◌, ◌/◌, ◌<◌, Bool, cond, List, [], ◌∷◌, ◌++◌, map, length, ◌==◌, nat_le}
 use Rattle.plans.specs.declared.step.Step.{Step}
 use Rattle.planning.specs.Planning.{step}
 use Rattle.factor_plans.specs.Divisors.{Least, least_divisor}
+
+-- the factor method allows exponents up to 2 ^ 32 - 1
+abbrev pub allows_factor : ℕ → Bool
+allows_factor n = nat_le n 4294967295
 
 -- a step of a plan whose a_0 is the value number `base` of another plan, and is `scale` there
 abbrev pub shifted : ℕ → ℕ → Step → Step

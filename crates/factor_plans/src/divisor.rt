@@ -10,12 +10,6 @@ pub fn least_divisor(n: u64) -> Option<u64>
     if n < 2 {
         return None;
     }
-    let mut d = 2;
-    while d <= n / d {
-        if n % d == 0 {
-            return Some(d);
-        }
-        d += 1;
-    }
-    Some(n)
+    let divisor = (2..n.isqrt() + 1).find(|d| n % *d == 0);
+    Some(divisor.unwrap_or(n))
 }

@@ -1,56 +1,72 @@
-//! Method 3, by factors.
-ghost use Rattle.std.specs.Prelude.{◌≡◌, ◌+◌, ◌*◌, ◌^◌, ◌<◌, ◌≤◌, map, length, take, IfOk, nat_le};
+//! The factor method.
+ghost use Rattle.std.specs.Prelude.{◌≡◌, ◌+◌, ◌*◌, ◌^◌, ◌<◌, ◌≤◌, ◌++◌, map, length, take, drop, IfOk};
 ghost use Rattle.std.proofs.lemmas.List.Edits.{sets};
 ghost use Rattle.plans.specs.Chain.{Chain};
-ghost use Rattle.planning.specs.Bits.{top};
+ghost use Rattle.bits.specs.Bits.{top};
 ghost use Rattle.planning.specs.Planning.{planned, written};
-ghost use Rattle.factor_plans.specs.Factor.{shifted, factor_plan, FactorRule};
+ghost use Rattle.factor_plans.specs.Factor.{allows_factor, shifted, factor_plan, FactorRule};
 
 use crate::divisor::least_divisor;
-use planning::check_request;
-use plans::Step;
+use planning::{Reached, StepWriter, check_exponent};
+use plans::{MOST_STEPS, Step};
 use refusals::Refusal;
 
 /// The largest exponent of the factor method.
 pub const TOP_FACTORED: u64 = 0xffff_ffff;
 
-// Writes the plan of n from place `base` on, its a_0 being the value number `base`, which is `scale`; answers the plan's length.
-fn factor_into(n: u64, base: usize, scale: u64, table: &mut [Step]) -> usize
+// Writes the plan of n behind the steps that stand, its a_0 being the value `one` of the plan under way. Answers the value that it reaches, n times that one.
+fn factor_into(n: u64, one: Reached, steps: &mut StepWriter<'_>) -> Reached
     requires low { 1 ≤ n }
-    requires high { n * scale < 2 ^ 64 }
-    requires room { base + length (factor_plan n) < 128 }
-    requires places { 128 ≤ length table.old }
-    ensures count { result ≡ length (factor_plan n) }
-    ensures within { base + result < 128 }
-    ensures after { table.new ≡ sets table.old base (map (shifted base scale) (factor_plan n)) }
+    requires high { n * one.value < 2 ^ 64 }
+    requires room { steps.old.len + length (factor_plan n) < 128 }
+    requires number { one.number ≡ steps.old.len }
+    ensures same_table { steps.new.table.ghost_name ≡ steps.old.table.ghost_name }
+    ensures table { steps.new.table.now ≡ sets steps.old.table.now steps.old.len (map (shifted one.number one.value) (factor_plan n)) }
+    ensures len { steps.new.len ≡ steps.old.len + length (factor_plan n) }
+    ensures number { result.number ≡ steps.new.len }
+    ensures value { result.value ≡ n * one.value }
 {
     let Some(p) = least_divisor(n) else {
-        return 0;
+        return one;
     };
     if p == n {
-        let len = factor_into(n - 1, base, scale, table);
-        let last = base + len;
-        table[last] = Step {
-            j: last as u16,
-            k: base as u16,
-            value: n * scale,
-        };
-        return len + 1;
+        let before = factor_into(n - 1, one, steps);
+        return steps.add(before, one).unwrap();
     }
-    let len = factor_into(p, base, scale, table);
-    len + factor_into(n / p, base + len, scale * p, table)
+    let at_p = factor_into(p, one, steps);
+    factor_into(n / p, at_p, steps)
 }
 
-/// Method 3. The plan of a prime is that of the number before it and a step that adds a_0; with the smallest divisor p above 1, the plan of a
+// Writes the plan. Answers how many steps it has.
+fn write_plan(n: u64, places: &mut [Step; MOST_STEPS]) -> usize
+    requires positive { 1 ≤ n }
+    requires bounded { n < 2 ^ 63 }
+    ensures count { result ≡ length (factor_plan n) }
+    ensures within { result ≤ 128 }
+    ensures after { places.new ≡ factor_plan n ++ drop (length (factor_plan n)) places.old }
+{
+    let mut steps = StepWriter::new(places);
+    factor_into(n, Reached::ONE, &mut steps);
+    steps.len()
+}
+
+/// The factor method. The plan of a prime is that of the number before it and a step that adds a_0; with the smallest divisor p above 1, the plan of a
 /// product n = p·q is the plan of p followed by the plan of q, its values times p and its a_0 being p.
+#[tactic(auto, using(crate::proofs::Factors::factor_rule))]
 pub fn factor(n: u64, table: &mut [Step]) -> Result<usize, Refusal>
-    ensures answer { result ≡ planned (nat_le n 4294967295) n (factor_plan n) (length table.old) }
+    ensures answer { result ≡ planned (allows_factor n) n (factor_plan n) (length table.old) }
     ensures after { table.new ≡ written result (factor_plan n) table.old }
     ensures rule { FactorRule }
     ensures within { IfOk result (λ l. l ≤ 128) }
     ensures short { IfOk result (λ l. l ≤ 2 * top n) }
     ensures chain { IfOk result (λ l. Chain n (take l table.new)) }
 {
-    check_request(n <= TOP_FACTORED, n, table.len())?;
-    Ok(factor_into(n, 0, 1, table))
+    check_exponent(n)?;
+    if n > TOP_FACTORED {
+        return Err(Refusal::Method);
+    }
+    let Some(places) = table.first_chunk_mut() else {
+        return Err(Refusal::TableShort(MOST_STEPS as u64));
+    };
+    Ok(write_plan(n, places))
 }

@@ -1,82 +1,91 @@
 //! The fitting on a card of each kind: a bank under a window.
 use crate::request::{CardKind, Request};
-use banks::{CountsBank, RegisterBank, ResiduesBank};
-use fitting::{FitRefusal, Fitted, Tables, fit};
-use kinds::{Count, Residues};
+use banks::Bank;
+use fitting::{Fitted, Tables, fit};
+use jobs::JobRefusal;
+use kinds::{Count, Counts, Residues};
 use polynomials::{Register, Word};
 use refusals::Refusal;
+use std::fmt;
+use units::Unit;
 use window::Window;
 
-/// What came of a request.
+/// Why nothing was fitted; it is written as where that was found.
 #[derive(Clone, Copy)]
-pub(crate) enum Outcome {
-    /// The plan was run; the power is a plain number.
-    Done(Fitted<u64>),
-    /// The sheet or the plan was refused.
-    Refused(FitRefusal),
+pub(crate) enum CardError {
     /// There is no such card.
     NoCard(Refusal),
+    /// The sheet or the plan was refused.
+    Refused(JobRefusal),
 }
 
-// What was found, with the power as a plain number.
-fn reported<V: Copy>(answer: Result<Fitted<V>, FitRefusal>, power: u64) -> Outcome {
-    match answer {
-        Ok(found) => Outcome::Done(Fitted {
-            plan: found.plan,
-            trimmed: found.trimmed,
-            power,
-            left: found.left,
-        }),
-        Err(refusal) => Outcome::Refused(refusal),
+impl CardError {
+    /// The refusal itself.
+    pub(crate) fn refusal(&self) -> Refusal {
+        match self {
+            CardError::NoCard(refusal) => *refusal,
+            CardError::Refused(refused) => refused.refusal,
+        }
     }
 }
 
-fn fit_counts(request: &Request, text: &[u8], tables: &mut Tables) -> Outcome {
-    let mut card = Window::new(CountsBank::new(request.allowance), 0, request.cells);
-    let base = Count {
-        value: request.base,
-    };
-    let answer = fit(&mut card, text, request.exponent, base, tables);
-    let power = match answer {
-        Ok(found) => found.power.value,
-        Err(_) => 0,
-    };
-    reported(answer, power)
+impl fmt::Display for CardError {
+    fn fmt<W: fmt::Write>(&self, f: &mut fmt::Formatter<W>) -> fmt::Result {
+        match self {
+            CardError::NoCard(_) => f.write_str("when the card is made"),
+            CardError::Refused(refused) => write!(f, "stage {}", refused.stage),
+        }
+    }
 }
 
-fn fit_residues(rule: Residues, request: &Request, text: &[u8], tables: &mut Tables) -> Outcome {
-    let mut card = Window::new(ResiduesBank::new(rule, request.allowance), 0, request.cells);
-    let base = (request.base & 0xffff_ffff) as u32;
-    let answer = fit(&mut card, text, request.exponent, base, tables);
-    let power = match answer {
-        Ok(found) => found.power as u64,
-        Err(_) => 0,
-    };
-    reported(answer, power)
+impl From<JobRefusal> for CardError {
+    fn from(refused: JobRefusal) -> CardError {
+        CardError::Refused(refused)
+    }
 }
 
-fn fit_polynomials(rule: Register, request: &Request, text: &[u8], tables: &mut Tables) -> Outcome {
-    let mut card = Window::new(RegisterBank::new(rule, request.allowance), 0, request.cells);
-    let base = Word { bits: request.base };
-    let answer = fit(&mut card, text, request.exponent, base, tables);
-    let power = match answer {
-        Ok(found) => found.power.bits,
-        Err(_) => 0,
-    };
-    reported(answer, power)
+// Fits the plan of the sheet to a card over the bank; the power is a plain number.
+fn fit_to_bank<U: Unit + Drop>(
+    bank: U,
+    base: U::Value,
+    request: &Request,
+    text: &[u8],
+    tables: &mut Tables,
+) -> Result<Fitted<u64>, CardError>
+where
+    U::Value: Into<u64>,
+{
+    let mut card = Window::new(bank, 0, request.cells);
+    let found = fit(&mut card, text, request.exponent, base, tables)?;
+    Ok(Fitted {
+        plan: found.plan,
+        trimmed: found.trimmed,
+        power: found.power.into(),
+        left: found.left,
+    })
 }
 
 /// Makes the card, and fits the plan of the sheet to it.
-pub(crate) fn fit_to_card(request: &Request, text: &[u8], tables: &mut Tables) -> Outcome {
+pub(crate) fn fit_to_card(
+    request: &Request,
+    text: &[u8],
+    tables: &mut Tables,
+) -> Result<Fitted<u64>, CardError> {
+    let allowance = request.allowance;
     match request.kind {
-        CardKind::Counts => fit_counts(request, text, tables),
-        CardKind::Residues => match Residues::new(request.modulus) {
-            Ok(rule) => fit_residues(rule, request, text, tables),
-            Err(refusal) => Outcome::NoCard(refusal),
-        },
-        CardKind::Polynomials => match Register::new(request.modulus) {
-            Ok(rule) => fit_polynomials(rule, request, text, tables),
-            Err(refusal) => Outcome::NoCard(refusal),
-        },
+        CardKind::Counts => {
+            let bank = Bank::new(Counts, allowance);
+            fit_to_bank(bank, Count::from(request.base), request, text, tables)
+        }
+        CardKind::Residues => {
+            let rule = Residues::new(request.modulus).map_err(CardError::NoCard)?;
+            let base = (request.base & 0xffff_ffff) as u32;
+            fit_to_bank(Bank::new(rule, allowance), base, request, text, tables)
+        }
+        CardKind::Polynomials => {
+            let rule = Register::new(request.modulus).map_err(CardError::NoCard)?;
+            let bank = Bank::new(rule, allowance);
+            fit_to_bank(bank, Word::from(request.base), request, text, tables)
+        }
     }
 }

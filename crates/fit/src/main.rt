@@ -10,18 +10,17 @@ mod tests;
 
 use crate::cards::fit_to_card;
 use crate::report::{print_report, print_usage};
-use crate::request::{Request, WORDS, word};
+use crate::request::Request;
 use fitting::Tables;
 use std::{env, fs};
 
 fn main(rt: HostRuntime) -> anyhow::Result<()> {
     let args: Vec<String> = env::args(&rt)?.collect(rt.alloc())?;
-    if args.len() != WORDS {
+    let [_, name, exponent, kind, modulus, cells, allowance, base] = args.as_slice() else {
         print_usage(&rt)?;
         return Ok(());
-    }
-    let name = word(&args, 1);
-    match Request::from_args(&args) {
+    };
+    match Request::parse([exponent, kind, modulus, cells, allowance, base]) {
         Err(wrong) => println!(rt; "{wrong}")?,
         Ok(request) => match fs::read(&rt, name) {
             Err(_) => println!(rt; "SHEET-FILE cannot be read: {name}")?,

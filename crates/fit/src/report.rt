@@ -1,9 +1,7 @@
 //! What the program prints.
-use crate::cards::Outcome;
+use crate::cards::CardError;
 use crate::request::{CardKind, Request};
 use fitting::{Fitted, Tables, describe};
-use jobs::Stage;
-use refusals::Refusal;
 use std::io;
 
 /// How the program is called.
@@ -26,11 +24,11 @@ pub(crate) fn print_usage(rt: &HostRuntime) -> io::Result<()> {
 fn print_card(rt: &HostRuntime, request: &Request) -> io::Result<()> {
     let exponent = request.exponent;
     println!(rt; "exponent         {exponent}")?;
-    let modulus = request.modulus;
-    match request.kind {
-        CardKind::Counts => print!(rt; "card             counts")?,
-        CardKind::Residues => print!(rt; "card             residues modulo {modulus}")?,
-        CardKind::Polynomials => print!(rt; "card             polynomials modulo {modulus}")?,
+    let kind = request.kind;
+    print!(rt; "card             {kind}")?;
+    if kind != CardKind::Counts {
+        let modulus = request.modulus;
+        print!(rt; " modulo {modulus}")?;
     }
     let cells = request.cells;
     let allowance = request.allowance;
@@ -45,16 +43,15 @@ fn print_steps(rt: &HostRuntime, tables: &Tables, length: usize) -> io::Result<(
     println!(rt; "value    made from                exponent     in the run sheet   cell")?;
     let cell = tables.cells[0];
     println!(rt; "    0               {:>22}{:>28}", 1, cell)?;
-    for (i, step) in tables.trimmed.iter().enumerate() {
-        if i >= length {
-            break;
-        }
-        let number = i + 1;
+    let rows = tables
+        .trimmed
+        .iter()
+        .zip(&tables.exponents)
+        .zip(&tables.cells[1..]);
+    for (number, ((step, given), cell)) in (1u64..).zip(rows).take(length) {
         let j = step.j;
         let k = step.k;
         let value = step.value;
-        let given = tables.exponents[i];
-        let cell = tables.cells[i + 1];
         print!(rt; "{number:>5}    {j:>3} and {k:>3}{value:>22}")?;
         println!(rt; "{given:>21}{cell:>7}")?;
     }
@@ -63,15 +60,9 @@ fn print_steps(rt: &HostRuntime, tables: &Tables, length: usize) -> io::Result<(
 
 // The first value whose exponent in the run sheet is not the plan's, if there is one.
 fn first_difference(tables: &Tables, length: usize) -> Option<usize> {
-    for (i, step) in tables.trimmed.iter().enumerate() {
-        if i >= length {
-            break;
-        }
-        if tables.exponents[i] != step.value {
-            return Some(i + 1);
-        }
-    }
-    None
+    let mut rows = tables.trimmed.iter().zip(&tables.exponents).take(length);
+    rows.position(|(step, given)| *given != step.value)
+        .map(|i| i + 1)
 }
 
 fn print_found(rt: &HostRuntime, tables: &Tables, found: &Fitted<u64>) -> io::Result<()> {
@@ -92,12 +83,13 @@ fn print_found(rt: &HostRuntime, tables: &Tables, found: &Fitted<u64>) -> io::Re
     println!(rt; "allowance left   {left}")
 }
 
-fn print_refusal(rt: &HostRuntime, stage: &str, refusal: Refusal) -> io::Result<()> {
+fn print_refusal(rt: &HostRuntime, error: &CardError) -> io::Result<()> {
+    let refusal = error.refusal();
     let number = refusal.number();
     let place = refusal.place();
-    println!(rt; "refused          number {number}, place {place}, {stage}")?;
-    rt.print("                 ")?;
-    rt.println(describe(refusal))
+    println!(rt; "refused          number {number}, place {place}, {error}")?;
+    let words = describe(refusal);
+    println!(rt; "                 {words}")
 }
 
 /// What came of a request.
@@ -105,16 +97,11 @@ pub(crate) fn print_report(
     rt: &HostRuntime,
     request: &Request,
     tables: &Tables,
-    outcome: &Outcome,
+    outcome: &Result<Fitted<u64>, CardError>,
 ) -> io::Result<()> {
     print_card(rt, request)?;
     match outcome {
-        Outcome::Done(found) => print_found(rt, tables, found),
-        Outcome::NoCard(refusal) => print_refusal(rt, "when the card is made", *refusal),
-        Outcome::Refused(refused) => match refused.stage {
-            Stage::Reading => print_refusal(rt, "stage reading", refused.refusal),
-            Stage::Admission => print_refusal(rt, "stage admission", refused.refusal),
-            Stage::Running => print_refusal(rt, "stage running", refused.refusal),
-        },
+        Ok(found) => print_found(rt, tables, found),
+        Err(error) => print_refusal(rt, error),
     }
 }

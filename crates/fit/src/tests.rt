@@ -1,5 +1,5 @@
 //! Requests on a card of each kind, accepted and refused, with what must come of them.
-use crate::cards::{Outcome, fit_to_card};
+use crate::cards::{CardError, fit_to_card};
 use crate::request::{CardKind, Request};
 use fitting::Tables;
 use jobs::Stage;
@@ -23,7 +23,7 @@ fn request(kind: CardKind, modulus: u64, base: u64) -> Request {
 // Whether the request gives this power, with 3 multiplications left.
 fn gives(request: &Request, power: u64) -> bool {
     match fit_to_card(request, SHEET, &mut Tables::new()) {
-        Outcome::Done(fitted) => fitted.power == power && fitted.left == 3,
+        Ok(fitted) => fitted.power == power && fitted.left == 3,
         _ => false,
     }
 }
@@ -31,7 +31,7 @@ fn gives(request: &Request, power: u64) -> bool {
 // Whether the text is refused so at the stage.
 fn refused(request: &Request, text: &[u8], stage: Stage, number: u8, place: u64) -> bool {
     match fit_to_card(request, text, &mut Tables::new()) {
-        Outcome::Refused(refusal) => refusal.stage == stage
+        Err(CardError::Refused(refusal)) => refusal.stage == stage
             && refusal.refusal.number_and_place() == (number, place),
         _ => false,
     }
@@ -89,7 +89,7 @@ fn makes_no_card_out_of_bounds(rt: HostRuntime) -> Result<(), Fail> {
         SHEET,
         &mut Tables::new(),
     ) {
-        Outcome::NoCard(refusal) => {
+        Err(CardError::NoCard(refusal)) => {
             assert!(rt; refusal.number_and_place() == (12, 0));
             Ok(())
         },

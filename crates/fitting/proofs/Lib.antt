@@ -1,4 +1,3 @@
 pub mod Working
 pub mod Rehearsed
 pub mod Trims
-pub mod Stages

@@ -1,5 +1,5 @@
 -- A run in whole numbers from 1, and the sums that its records make. Assumes nothing.
-use Rattle.std.proofs.Common.{◌≡◌, ℕ, suc, ◌^◌, ◌<◌, ◌≤◌, leb, List, [], ◌∷◌, ◌++◌, map, length, get_or, take, drop, set, replicate, Some, None, Option, sym, refl, ap, ◌∙◌, subst, ⊎_elim, arith, length-take, le-leb}
+use Rattle.std.proofs.Common.{◌≡◌, ℕ, suc, ◌^◌, ◌<◌, ◌≤◌, leb, List, [], ◌∷◌, ◌++◌, map, length, get_or, drop, set, replicate, Some, None, Option, sym, refl, ap, ◌∙◌, subst, ⊎_elim, arith, le-leb}
 use lib.ListN.{length-map}
 use Rattle.std.proofs.lemmas.List.{get_or_past}
 use Rattle.std.proofs.lemmas.Bool.{cases_lt}
@@ -29,8 +29,8 @@ one_count = record { value = 1 }
 abbrev pub outset : State Count
 outset = record { cells = replicate 32 None; left = 128; log = Some [] }
 
-pub outset_is : (rows : List Record) (len : ℕ) (below : State Count) → len ≡ 0 → below ≡ fresh 128 → sheeted rows len below ≡ outset
-outset_is rows len below p q = ap (λ (z : ℕ). sheeted rows z below) p ∙ ap (λ (z : State Count). sheeted rows 0 z) q
+pub outset_is : (rows : List Record) (below : State Count) → rows ≡ [] → below ≡ fresh 128 → sheeted rows below ≡ outset
+outset_is rows below p q = ap (λ (z : List Record). sheeted z below) p ∙ ap (λ (z : State Count). sheeted [] z) q
 
 module _ (n : ℕ) (steps : List Step) (chain : Chain n steps) where
   outset_fault : run_fault counting outset steps one_count ≡ rehearsal_fault steps
@@ -59,16 +59,16 @@ module _ (n : ℕ) (steps : List Step) (chain : Chain n steps) where
   sums_long cells [] = refl
   sums_long cells (r ∷ rs) = ap (λ (z : ℕ). suc z) (sums_long (set cells r.to (sum_of cells r)) rs)
 
-  -- after the run, with `len` of the rows in use
+  -- after the run, with these records
   module _ (s : State Count) (begun : s ≡ outset) (y : Count) (t : State Count) (done : Success counting s n steps one_count y t)
-      (rows : List Record) (len : ℕ) (logged : t.log ≡ Some (take len rows)) (within : len ≤ length rows) where
-    rows_are : take len rows ≡ done.traces.added
+      (rows : List Record) (logged : t.log ≡ Some rows) where
+    rows_are : rows ≡ done.traces.added
     rows_are =
         let old : s.log ≡ Some [] = ap (λ (z : State Count). z.log) begun in
         let new : t.log ≡ Some done.traces.added = done.traces.kept ∙ ap (λ (z : Option (List Record)). option_map (λ l. l ++ done.traces.added) z) old in
         cc
 
-    pub sums_are : (start : ℕ) → start ≡ 0 → sums (one_in 32 start) (take len rows) ≡ map (λ x. x.value) steps
+    pub sums_are : (start : ℕ) → start ≡ 0 → sums (one_in 32 start) rows ≡ map (λ x. x.value) steps
     sums_are start h =
         let size : length s.cells ≡ 32 = ap (λ (z : State Count). length z.cells) begun in
         let first : start ≡ cell_of done.places 0 = h ∙ sym done.supplied.start in
@@ -77,17 +77,16 @@ module _ (n : ℕ) (steps : List Step) (chain : Chain n steps) where
         ∙ ap (λ (z : ℕ). sums (one_in z (cell_of done.places 0)) done.traces.added) (sym size)
         ∙ done.traces.values
 
-    pub len_is : len ≡ length steps
+    pub len_is : length rows ≡ length steps
     len_is =
-        let long : length (take len rows) ≡ len = simp length-take (omega arith) in
-        sym long ∙ sym (sums_long (one_in 32 0) (take len rows)) ∙ ap length (sums_are 0 refl) ∙ length-map steps (λ x. x.value)
+        sym (sums_long (one_in 32 0) rows) ∙ ap length (sums_are 0 refl) ∙ length-map steps (λ x. x.value)
 
-    pub few : len ≤ 128
+    pub few : length rows ≤ 128
     few = let b = chain.short in omega (arith, len_is)
 
-    pub sums_small : (start : ℕ) → start ≡ 0 → (i : ℕ) → get_or (sums (one_in 32 start) (take len rows)) i 0 < 2 ^ 63
+    pub sums_small : (start : ℕ) → start ≡ 0 → (i : ℕ) → get_or (sums (one_in 32 start) rows) i 0 < 2 ^ 63
     sums_small start h i = subst (λ (z : List ℕ). get_or z i 0 < 2 ^ 63) (sym (sums_are start h)) (values_small i)
 
-    pub front_is : (start : ℕ) → start ≡ 0 → (was : List ℕ) → sums (one_in 32 start) (take len rows) ++ drop len was ≡ map (λ x. x.value) steps ++ drop (length steps) was
+    pub front_is : (start : ℕ) → start ≡ 0 → (was : List ℕ) → sums (one_in 32 start) rows ++ drop (length rows) was ≡ map (λ x. x.value) steps ++ drop (length steps) was
     front_is start h was =
-        ap (λ (z : List ℕ). z ++ drop len was) (sums_are start h) ∙ ap (λ (z : ℕ). map (λ x. x.value) steps ++ drop z was) len_is
+        ap (λ (z : List ℕ). z ++ drop (length rows) was) (sums_are start h) ∙ ap (λ (z : ℕ). map (λ x. x.value) steps ++ drop z was) len_is

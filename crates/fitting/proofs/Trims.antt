@@ -1,6 +1,5 @@
 -- A plan of n fitted: what cannot be refused, and what is answered. Assumes nothing.
-use Rattle.std.proofs.Common.{◌≡◌, ℕ, ◌+◌, ◌-◌, ◌<◌, ◌≤◌, Bool, true, false, cond, leb, List, ◌++◌, length, get_or, take, drop, is_ok, Some, None, Ok, Err, Decides, Option, Result, sym, ap, ◌∙◌, subst, arith, get_or-take, le-leb}
-use native.Mathlib.Nat.{sub-zero}
+use Rattle.std.proofs.Common.{◌≡◌, ℕ, ◌+◌, ◌-◌, ◌<◌, ◌≤◌, Bool, true, false, cond, leb, List, ◌++◌, length, get_or, take, drop, Some, None, Ok, Err, Decides, Option, Result, sym, ap, ◌∙◌, subst, arith, get_or-take, le-leb}
 use lib.Seq.{take-append_seam}
 use Rattle.refusals.specs.declared.refusal.Refusal.{Refusal}
 use Rattle.refusals.specs.declared.refusal.Refusal.TheVariants.{TableShort, NeedAbove}
@@ -38,13 +37,13 @@ module _ (n : ℕ) (s : List Step) (chain : Chain n s) where
   trim_length room k r h = let both : Ok k ≡ Ok (length (trimmed s)) = h ∙ trims room r in cc
 
   -- they stand in front
-  pub front_is : (k : ℕ) (was new : List Step) → k ≡ length (trimmed s) → new ≡ trimmed s ++ drop (length (trimmed s)) was → take (k - 0) new ≡ trimmed s
+  pub front_is : (k : ℕ) (was new : List Step) → k ≡ length (trimmed s) → new ≡ trimmed s ++ drop (length (trimmed s)) was → take k new ≡ trimmed s
   front_is k was new e h =
-      ap (λ (z : ℕ). take z new) (sub-zero k ∙ e) ∙ ap (take (length (trimmed s))) h ∙ take-append_seam (trimmed s) (drop (length (trimmed s)) was)
+      ap (λ (z : ℕ). take z new) e ∙ ap (take (length (trimmed s))) h ∙ take-append_seam (trimmed s) (drop (length (trimmed s)) was)
 
   -- they are always admitted
-  pub admit_never : {X : Type 0} (k : ℕ) (part : List Step) (e : Refusal) → k ≡ n → part ≡ trimmed s → Decides (is_ok {T = Unit {0}} (Err e)) (Chain k part) → X
-  admit_never k part e p q h =
+  pub admit_never : {X : Type 0} (k : ℕ) (part : List Step) → k ≡ n → part ≡ trimmed s → Decides false (Chain k part) → X
+  admit_never k part p q h =
       let c : Chain k part = subst (λ (z : List Step). Chain k z) (sym q) (subst (λ (z : ℕ). Chain z (trimmed s)) (sym p) (trimmed_chain n s chain)) in
       let no : false ≡ true = h.1 c in
       absurd (let z : ◌≡◌ {A = ℕ} 0 1 = cc in omega arith)

@@ -17,10 +17,10 @@ pub(crate) fn run_on_card<U: Unit>(
     plan: &Plan<'_>,
     base: U::Value,
 ) -> Result<U::Value, Refusal>
-    ensures answer { result ≡ answered (run_fault (U.Kind.kind unit.old) (U.Unit.state unit.old) plan.now.steps.now base) (power (U.Kind.kind unit.old) base plan.now.exponent) }
-    ensures after { RanOnce (U.Kind.kind unit.old) (U.Unit.state unit.old) plan.now.exponent plan.now.steps.now base result (U.Unit.state unit.new) }
+    ensures answer { result ≡ answered (run_fault (U.kind unit.old) (U.state unit.old) plan.now.steps.now base) (power (U.kind unit.old) base plan.now.exponent) }
+    ensures after { RanOnce (U.kind unit.old) (U.state unit.old) plan.now.exponent plan.now.steps.now base result (U.state unit.new) }
     ensures refused { Unchanged result unit.old unit.new }
-    ensures same { U.Kind.kind unit.new ≡ U.Kind.kind unit.old }
+    ensures same { U.kind unit.new ≡ U.kind unit.old }
 {
     match perform_call(unit, &Call::run(*plan, base), &mut []) {
         Answer::Power(raised) => Ok(raised?.value),

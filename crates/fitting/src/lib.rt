@@ -1,10 +1,9 @@
 //! Fitting: the plan of a sheet is trimmed, placed, rehearsed in whole numbers, and run on a card.
-//! `fitter` has the two public calls, `tables` the lent working memory, `fitted` what is answered, `fit_refusal` why it is not, `words` the refusals in words;
+//! `fitter` has the two public calls, `tables` the lent working memory, `fitted` what is answered, `words` the refusals in words;
 //! below them stand `records` with records worked in sums, `rehearsal` with the run in whole numbers, and `card` with the run on the card.
 #![tactic(auto)]
 
 mod card;
-pub mod fit_refusal;
 pub mod fitted;
 pub mod fitter;
 mod records;
@@ -12,7 +11,6 @@ mod rehearsal;
 pub mod tables;
 pub mod words;
 
-pub use fit_refusal::FitRefusal;
 pub use fitted::{Fitted, Size};
 pub use fitter::{fit, fit_plan};
 pub use tables::Tables;

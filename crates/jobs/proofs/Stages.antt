@@ -1,6 +1,5 @@
 -- A sheet, stage by stage, whatever is done with its steps in the last. Assumes nothing.
-use Rattle.std.proofs.Common.{◌≡◌, ℕ, ◌-◌, ◌≤◌, List, length, take, drop, Ok, Err, Option, Result, sym, refl, ap, ◌∙◌, subst, arith, length-append, MatchOption, MatchResult}
-use native.Mathlib.Nat.{sub-zero}
+use Rattle.std.proofs.Common.{◌≡◌, ℕ, ◌≤◌, List, length, take, drop, Ok, Err, Option, Result, sym, refl, ap, ◌∙◌, subst, arith, length-append, MatchOption, MatchResult}
 use lib.Seq.{take-append_seam}
 use Rattle.refusals.specs.declared.refusal.Refusal.{Refusal}
 use Rattle.refusals.specs.Faults.{and_then, Unchanged}
@@ -48,10 +47,10 @@ module _ (sheet own : Result (List Step) Refusal) (same : own ≡ sheet) (old ne
   left_is = read_left ∙ ap (λ (r : Result (List Step) Refusal). filled r old) found.1
 
   -- the steps lie in front
-  pub read_is : sheet ≡ Ok (take (k - 0) new)
+  pub read_is : sheet ≡ Ok (take k new)
   read_is =
       let front : take (length found.0) new ≡ found.0 = ap (take (length found.0)) left_is ∙ (filled_is found.0 old).0 in
-      found.1 ∙ ap Ok (sym front) ∙ ap (λ (n : ℕ). Ok (take n new)) (sym found.2 ∙ sym (sub-zero k))
+      found.1 ∙ ap Ok (sym front) ∙ ap (λ (n : ℕ). Ok (take n new)) (sym found.2)
 
   pub read_fits : k ≤ length new
   read_fits =
@@ -76,38 +75,43 @@ module _ (sheet : Result (List Step) Refusal) (n : ℕ) (a : Result ℕ Refusal)
   unread_after P Q h =
       subst (λ (p : Option (List Step)). MatchOption p P Q) (sym (ap (λ (r : Result (List Step) Refusal). job_plan r n) unread.1)) h
 
--- the steps are read, and admission answered v
-module _ (sheet : Result (List Step) Refusal) (n : ℕ) (steps : List Step) (is : sheet ≡ Ok steps) (v : Result (Unit {0}) Refusal) (said : v ≡ admission n steps) where
-  answer_is : {Y : Type 0} (work : List Step → Result Y Refusal) → through_stages sheet n work ≡ and_then (staged Admission v) (λ _. staged Running (work steps))
-  answer_is work =
+-- the steps are read, and v, which is the admission's answer, has what was made of them
+module _ {A : Type 0} (sheet : Result (List Step) Refusal) (n : ℕ) (steps : List Step) (is : sheet ≡ Ok steps) (v : Result A Refusal)
+    (said : MatchResult v (λ _. admission n steps ≡ Ok tt) (λ e. admission n steps ≡ Err e)) where
+  answer_is : {Y : Type 0} (w : Result (Unit {0}) Refusal) → admission n steps ≡ w → (work : List Step → Result Y Refusal)
+      → through_stages sheet n work ≡ and_then (staged Admission w) (λ _. staged Running (work steps))
+  answer_is w h work =
       ap (λ (r : Result (List Step) Refusal). through_stages r n work) is
-      ∙ ap (λ (w : Result (Unit {0}) Refusal). and_then (staged Admission w) (λ _. staged Running (work steps))) (sym said)
+      ∙ ap (λ (z : Result (Unit {0}) Refusal). and_then (staged Admission z) (λ _. staged Running (work steps))) h
 
-  plan_is : job_plan sheet n ≡ if_admitted v steps
-  plan_is = ap (λ (r : Result (List Step) Refusal). job_plan r n) is ∙ ap (λ (w : Result (Unit {0}) Refusal). if_admitted w steps) (sym said)
+  plan_is : (w : Result (Unit {0}) Refusal) → admission n steps ≡ w → job_plan sheet n ≡ if_admitted w steps
+  plan_is w h = ap (λ (r : Result (List Step) Refusal). job_plan r n) is ∙ ap (λ (z : Result (Unit {0}) Refusal). if_admitted z steps) h
 
   -- admission refused: no plan comes to the third stage
   module _ (e : JobRefusal) (stopped : Err e ≡ staged Admission v) where
+    fault : (f : Refusal) × (admission n steps ≡ Err f) × (e ≡ record { stage = Admission; refusal = f })
+    fault =
+        let f = staged_err Admission v e stopped in
+        (f.0, subst (λ (z : Result A Refusal). MatchResult z (λ _. admission n steps ≡ Ok tt) (λ d. admission n steps ≡ Err d)) f.1 said, f.2)
+
     pub stopped_answer : {Y : Type 0} (work : List Step → Result Y Refusal) → Err e ≡ through_stages sheet n work
     stopped_answer {Y} work =
-        let f = staged_err Admission v e stopped in
         let own : JobRefusal → Result Y JobRefusal = λ d. Err d in
-        ap own f.2 ∙ sym (answer_is work ∙ ap (λ (w : Result (Unit {0}) Refusal). and_then (staged Admission w) (λ _. staged Running (work steps))) f.1)
+        ap own fault.2 ∙ sym (answer_is (Err fault.0) fault.1 work)
 
     pub stopped_after : (P : Type 0) (Q : List Step → Type 0) → P → MatchOption (job_plan sheet n) P Q
-    stopped_after P Q h =
-        subst (λ (p : Option (List Step)). MatchOption p P Q) (sym (plan_is ∙ ap (λ (w : Result (Unit {0}) Refusal). if_admitted w steps) (staged_err Admission v e stopped).1)) h
+    stopped_after P Q h = subst (λ (p : Option (List Step)). MatchOption p P Q) (sym (plan_is (Err fault.0) fault.1)) h
 
   -- admission passed: the plan comes to the third stage, which answered r
-  module _ (u : Unit {0}) (passed : Ok u ≡ staged Admission v) where
+  module _ (u : A) (passed : Ok u ≡ staged Admission v) where
+    fine : admission n steps ≡ Ok tt
+    fine = on_ok Admission v u (λ _. admission n steps ≡ Ok tt) (λ d. admission n steps ≡ Err d) passed said
+
     pub worked_answer : {Y : Type 0} (work : List Step → Result Y Refusal) (r : Result Y Refusal) (w : Result Y JobRefusal) → r ≡ work steps → w ≡ staged Running r → w ≡ through_stages sheet n work
-    worked_answer work r w did told =
-        told ∙ ap (staged Running) did
-        ∙ sym (answer_is work ∙ ap (λ (z : Result (Unit {0}) Refusal). and_then (staged Admission z) (λ _. staged Running (work steps))) (staged_ok Admission v u passed))
+    worked_answer work r w did told = told ∙ ap (staged Running) did ∙ sym (answer_is (Ok tt) fine work)
 
     pub worked_after : (P : Type 0) (Q : List Step → Type 0) → Q steps → MatchOption (job_plan sheet n) P Q
-    worked_after P Q h =
-        subst (λ (p : Option (List Step)). MatchOption p P Q) (sym (plan_is ∙ ap (λ (w : Result (Unit {0}) Refusal). if_admitted w steps) (staged_ok Admission v u passed))) h
+    worked_after P Q h = subst (λ (p : Option (List Step)). MatchOption p P Q) (sym (plan_is (Ok tt) fine)) h
 
 -- what a refused run kept, a refused job kept
 pub kept_on : {X A : Type 0} (g : Stage) (r : Result X Refusal) (w : Result X JobRefusal) (old new : A) → w ≡ staged g r → Unchanged r old new → Unchanged w old new

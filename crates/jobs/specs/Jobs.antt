@@ -1,5 +1,5 @@
 -- Jobs: one sheet carried through reading, admission and running. Assumes nothing.
-use Rattle.std.specs.Prelude.{◌≡◌, ℕ, List, Some, None, Ok, Err, Option, Result}
+use Rattle.std.specs.Prelude.{◌≡◌, ℕ, List, Some, None, Ok, Err, Option, Result, MatchOption, codes}
 use Rattle.refusals.specs.declared.refusal.Refusal.{Refusal}
 use Rattle.refusals.specs.Codes.{code}
 use Rattle.refusals.specs.Faults.{and_then}
@@ -12,6 +12,12 @@ use Rattle.runs.specs.Answers.{run_answer, Ran}
 use Rattle.jobs.specs.declared.stage.Stage.{Stage}
 use Rattle.jobs.specs.declared.stage.Stage.TheVariants.{Reading, Admission, Running}
 use Rattle.jobs.specs.declared.job_refusal.JobRefusal.{JobRefusal}
+
+-- a stage's name
+abbrev pub stage_name : Stage → List ℕ
+stage_name Reading = codes "reading"
+stage_name Admission = codes "admission"
+stage_name Running = codes "running"
 
 -- a job's refusal: the number and the place of a stage's fault, and that stage
 pub record Arrived : Type 0 where
@@ -28,24 +34,16 @@ abbrev pub staged : {X : Type 0} → Stage → Result X Refusal → Result X Job
 staged g (Ok x) = Ok x
 staged g (Err e) = Err (record { stage = g; refusal = e })
 
--- the next stage, on what the one before handed on, unless that refused
-abbrev pub onward : {X Y : Type 0} → Result X JobRefusal → (X → Result Y JobRefusal) → Result Y JobRefusal
-onward (Ok x) next = next x
-onward (Err e) next = Err e
-
--- what a job answers, whose sheet is read so: the three stages in order
-abbrev pub job_answer : {V : Type 0} → Meaning V → State V → Result (List Step) Refusal → ℕ → V → Result (Raised V) JobRefusal
-job_answer m s sheet n x =
-    onward (staged Reading sheet) (λ steps.
-    onward (staged Admission (admission n steps)) (λ _.
-    staged Running (run_answer m s n steps x)))
-
 -- the three stages in order: a sheet that is read so, its steps admitted as a plan of n, and what is then done with them
 abbrev pub through_stages : {Y : Type 0} → Result (List Step) Refusal → ℕ → (List Step → Result Y Refusal) → Result Y JobRefusal
 through_stages sheet n work =
     and_then (staged Reading sheet) (λ steps.
     and_then (staged Admission (admission n steps)) (λ _.
     staged Running (work steps)))
+
+-- what a job answers, whose sheet is read so: the three stages in order, and the plan is run in the last
+abbrev pub job_answer : {V : Type 0} → Meaning V → State V → Result (List Step) Refusal → ℕ → V → Result (Raised V) JobRefusal
+job_answer m s sheet n x = through_stages sheet n (λ steps. run_answer m s n steps x)
 
 -- the steps, if they are admitted
 abbrev pub if_admitted : Result (Unit {0}) Refusal → List Step → Option (List Step)
@@ -59,5 +57,4 @@ job_plan (Err e) n = None
 
 -- a job that came to run no plan leaves the state as it was, and another as its run does
 abbrev pub Jobbed : {V : Type 0} → Meaning V → State V → ℕ → V → Option (List Step) → State V → Type 0
-Jobbed m s n x None t = t ≡ s
-Jobbed m s n x (Some steps) t = Ran m s n steps x (run_answer m s n steps x) t
+Jobbed m s n x plan t = MatchOption plan (t ≡ s) (λ steps. Ran m s n steps x (run_answer m s n steps x) t)

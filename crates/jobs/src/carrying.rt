@@ -21,15 +21,14 @@ pub fn job<U: Unit>(
     base: U::Value,
     table: &mut [Step],
 ) -> Result<Raised<U::Value>, JobRefusal>
-    ensures answer { result ≡ job_answer (U.Kind.kind unit.old) (U.Unit.state unit.old) (read_sheet text.now (length table.old)) n base }
-    ensures after { Jobbed (U.Kind.kind unit.old) (U.Unit.state unit.old) n base (job_plan (read_sheet text.now (length table.old)) n) (U.Unit.state unit.new) }
+    ensures answer { result ≡ job_answer (U.kind unit.old) (U.state unit.old) (read_sheet text.now (length table.old)) n base }
+    ensures after { Jobbed (U.kind unit.old) (U.state unit.old) n base (job_plan (read_sheet text.now (length table.old)) n) (U.state unit.new) }
     ensures table { table.new ≡ filled (read_sheet text.now (length table.old)) table.old }
     ensures refused { Unchanged result unit.old unit.new }
-    ensures same { U.Kind.kind unit.new ≡ U.Kind.kind unit.old }
+    ensures same { U.kind unit.new ≡ U.kind unit.old }
 {
     let mut reader = SheetReader::new(text);
     let count = at_stage(Stage::Reading, reader.read(table))?;
-    let mut plan = Plan::one();
-    at_stage(Stage::Admission, plan.admit(n, &table[0..count]))?;
+    let plan = at_stage(Stage::Admission, Plan::new(n, &table[..count]))?;
     at_stage(Stage::Running, run(unit, &plan, base))
 }

@@ -39,8 +39,5 @@ impl JobRefusal {
 pub fn at_stage<T>(stage: Stage, answer: Result<T, Refusal>) -> Result<T, JobRefusal>
     ensures value { result ≡ staged stage answer }
 {
-    match answer {
-        Ok(value) => Ok(value),
-        Err(refusal) => Err(JobRefusal { stage, refusal }),
-    }
+    answer.map_err(|refusal| JobRefusal { stage, refusal })
 }

@@ -18,21 +18,17 @@ pub struct Residues {
     ghost most: { modulus < 2 ^ 32 },
 }
 
-const SMALLEST_MODULUS: u64 = 2;
-
-const LARGEST_MODULUS: u64 = 0xffff_ffff;
+const SMALLEST_MODULUS: u32 = 2;
 
 impl Residues {
     /// The kind of residues of this modulus, unless it is refused as out of bounds.
     pub fn new(modulus: u64) -> Result<Residues, Refusal>
         ensures answer { result_map_both (λ k. k.modulus) (λ e. e) result ≡ answer (modulus_fault modulus) modulus }
     {
-        if modulus < SMALLEST_MODULUS || modulus > LARGEST_MODULUS {
-            return Err(Refusal::BadModulus);
+        match u32::try_from(modulus) {
+            Ok(modulus) if modulus >= SMALLEST_MODULUS => Ok(Residues { modulus }),
+            _ => Err(Refusal::BadModulus),
         }
-        Ok(Residues {
-            modulus: modulus as u32,
-        })
     }
 
     /// The modulus.
@@ -41,7 +37,7 @@ impl Residues {
         ensures least { 2 ≤ result }
         ensures most { result < 2 ^ 32 }
     {
-        self.modulus as u64
+        u64::from(self.modulus)
     }
 }
 
@@ -60,7 +56,7 @@ impl Kind for Residues {
 
     fn product(&self, a: u32, b: u32) -> Option<u32> {
         if self.is_native(a) && self.is_native(b) {
-            let product = a as u64 * b as u64 % self.modulus();
+            let product = u64::from(a) * u64::from(b) % self.modulus();
             Some(product as u32)
         } else {
             None

@@ -1,8 +1,8 @@
 -- What the plan program prints, from the sheet or the refusal that was written.
-use Rattle.std.proofs.Common.{◌≡◌, ℕ, ◌+◌, ◌-◌, ◌*◌, ◌^◌, ◌<◌, ◌≤◌, Bool, true, false, cond, eqb, leb, List, [], ◌∷◌, ◌++◌, length, get_or, take, drop, set, IfErr, Some, None, Ok, Err, Decides, Option, Result, sym, refl, ap, ◌∙◌, subst, arith, lit<, drop-cons}
+use Rattle.std.proofs.Common.{◌≡◌, ℕ, ◌+◌, ◌*◌, ◌^◌, ◌<◌, ◌≤◌, Bool, true, false, cond, eqb, leb, List, [], ◌∷◌, ◌++◌, length, get_or, take, drop, set, IfErr, Some, None, Ok, Err, Option, Result, sym, refl, ap, ◌∙◌, subst, arith, lit<, drop-cons}
 use borrow.Rule.Slice.PartMut.{put_mid, post_of}
 use Rattle.std.proofs.lemmas.List.{append_assoc, length-append, length-drop, length-take-le, drop_at, drop-drop, set_at}
-use Rattle.std.proofs.lemmas.Bool.{le-leb, false≢true}
+use Rattle.std.proofs.lemmas.Bool.{le-leb}
 use Rattle.refusals.specs.declared.refusal.Refusal.{Refusal}
 use Rattle.refusals.specs.declared.refusal.Refusal.TheVariants.{Exponent, Method, SheetLine, TableShort}
 use Rattle.refusals.specs.Codes.{code}
@@ -17,7 +17,9 @@ use Rattle.sheets.proofs.Reread.{length_sheet, chain_writable}
 use Rattle.methods.specs.declared.method.Method.{Method as PlanMethod}
 use Rattle.methods.specs.declared.request.PlanRequest.{PlanRequest}
 use Rattle.methods.specs.Methods.{method_of, plan_of, allows}
-use Rattle.methods.specs.Requests.{and_then, number_in, columns, fields_of, request_of, plan_by, plan_for, counted, steps_or, asked, sheet_length, sheet_over, refusal_line, printed, response, room_answer, responded}
+use Rattle.refusals.specs.Faults.{and_then}
+use Rattle.sheets.specs.Reading.{counted}
+use Rattle.methods.specs.Requests.{number_in, columns, fields_of, request_of, plan_by, plan_for, steps_or, asked, sheet_length, sheet_over, refusal_line, printed, response, room_answer, responded}
 
 -- ---- the line of a refusal
 -- the columns before a are written, and then v in the next w: they were f, and the rest is as it was
@@ -76,19 +78,11 @@ sheet_wrote (Ok t) n l steps o out r k s c h a w =
     )
 
 -- the steps that were admitted are the first of the table
-pub sheet_answered : (line : List ℕ) (q : PlanRequest) (n l : ℕ) (table steps : List Step) (o out : List ℕ) (r : Result ℕ Refusal) → Ok q ≡ request_of line → Ok l ≡ counted (plan_for q) → take l table ≡ steps_or (plan_for q) → Chain n (take l table) → steps ≡ take (l - 0) table → 4096 ≤ length o → r ≡ wrote steps (length o) → out ≡ written steps o → (r ≡ sheet_length (asked line)) × (out ≡ sheet_over (asked line) o)
+pub sheet_answered : (line : List ℕ) (q : PlanRequest) (n l : ℕ) (table steps : List Step) (o out : List ℕ) (r : Result ℕ Refusal) → Ok q ≡ request_of line → Ok l ≡ counted (plan_for q) → take l table ≡ steps_or (plan_for q) → Chain n (take l table) → steps ≡ take l table → 4096 ≤ length o → r ≡ wrote steps (length o) → out ≡ written steps o → (r ≡ sheet_length (asked line)) × (out ≡ sheet_over (asked line) o)
 sheet_answered line q n l table steps o out r eq k f c s h a w =
-    let z : l - 0 ≡ l = omega arith in
-    let t : steps ≡ take l table = s ∙ ap (λ (m : ℕ). take m table) z in
-    let p = sheet_wrote (plan_for q) n l steps o out r k (t ∙ f) (subst (Chain n) (sym t) c) h a w in
+    let p = sheet_wrote (plan_for q) n l steps o out r k (s ∙ f) (subst (Chain n) (sym s) c) h a w in
     let e = sym (asked_is line q eq) in
     (p.0 ∙ ap sheet_length e, p.1 ∙ ap (λ (x : Result (List Step) Refusal). sheet_over x o) e)
-
--- a plan that is a chain is not refused
-pub no_refusal : (n l : ℕ) (table : List Step) → Chain n (take l table) → Decides false (Chain n (take (l - 0) table)) → ⊥
-no_refusal n l table c d =
-    let z : l ≡ l - 0 = omega arith in
-    false≢true (d.1 (subst (λ (m : ℕ). Chain n (take m table)) z c))
 
 -- what a line is answered whose plan is refused
 pub refused_answered : (line : List ℕ) (q : PlanRequest) (e : Refusal) → Ok q ≡ request_of line → Err e ≡ counted (plan_for q) → asked line ≡ Err e

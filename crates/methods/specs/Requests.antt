@@ -3,6 +3,7 @@ use Rattle.std.specs.Prelude.{ℕ, cond, List, [], ◌∷◌, ◌++◌, length, 
 use Rattle.refusals.specs.declared.refusal.Refusal.{Refusal}
 use Rattle.refusals.specs.declared.refusal.Refusal.TheVariants.{Exponent, Method, SheetLine, Field, TableShort}
 use Rattle.refusals.specs.Codes.{code}
+use Rattle.refusals.specs.Faults.{and_then}
 use Rattle.fields.specs.Field.{field, field_value}
 use Rattle.plans.specs.declared.step.Step.{Step}
 use Rattle.planning.specs.Planning.{is_exponent}
@@ -10,11 +11,6 @@ use Rattle.sheets.specs.Sheets.{sheet}
 use Rattle.methods.specs.declared.request.PlanRequest.{PlanRequest}
 use Rattle.methods.specs.declared.method.Method.{Method as PlanMethod}
 use Rattle.methods.specs.Methods.{method_of, plan_of, allows}
-
--- what comes after, unless it is refused
-abbrev pub and_then : {X Y : Type 0} → Result X Refusal → (X → Result Y Refusal) → Result Y Refusal
-and_then (Ok x) go = go x
-and_then (Err e) go = Err e
 
 -- the number in a field of the line, or the refusal that it is malformed
 abbrev pub number_in : Option ℕ → Result ℕ Refusal
@@ -45,11 +41,6 @@ plan_by None n = Err Method
 -- the plan that a request asks for: the exponent comes first, then the method
 abbrev pub plan_for : PlanRequest → Result (List Step) Refusal
 plan_for q = cond (is_exponent q.exponent) (plan_by (method_of q.method q.width) q.exponent) (Err Exponent)
-
--- how many steps it has, unless it is refused
-abbrev pub counted : Result (List Step) Refusal → Result ℕ Refusal
-counted (Ok steps) = Ok (length steps)
-counted (Err e) = Err e
 
 -- its steps, and none where it is refused
 abbrev pub steps_or : Result (List Step) Refusal → List Step

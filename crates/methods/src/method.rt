@@ -11,6 +11,9 @@ use plans::Step;
 use refusals::Refusal;
 use tree_plans::tree;
 
+// The most bits of a digit, as a number of a request.
+const WIDEST: u64 = MOST_WIDTH as u64;
+
 /// A planning method.
 #[derive(Clone, Copy)]
 pub enum Method {
@@ -31,20 +34,12 @@ impl Method {
     pub fn numbered(number: u64, width: u64) -> Option<Method>
         ensures value { result ≡ method_of number width }
     {
-        if number == 4 {
-            if width < 1 || width > MOST_WIDTH as u64 {
-                return None;
-            }
-            return Some(Method::Digits(width as u32));
-        }
-        if width != 0 {
-            return None;
-        }
-        match number {
-            1 => Some(Method::LeftToRight),
-            2 => Some(Method::RightToLeft),
-            3 => Some(Method::Factor),
-            5 => Some(Method::Tree),
+        match (number, width) {
+            (1, 0) => Some(Method::LeftToRight),
+            (2, 0) => Some(Method::RightToLeft),
+            (3, 0) => Some(Method::Factor),
+            (4, 1..=WIDEST) => Some(Method::Digits(width as u32)),
+            (5, 0) => Some(Method::Tree),
             _ => None,
         }
     }

@@ -2,12 +2,13 @@
 ghost use Rattle.std.specs.Prelude.{◌≡◌, ◌^◌, ◌<◌, ◌≤◌, ◌++◌, length, take, drop, IfOk};
 ghost use Rattle.plans.specs.Chain.{Chain};
 ghost use Rattle.refusals.specs.Codes.{code};
-ghost use Rattle.methods.specs.Requests.{plan_for, steps_or, counted, asked, sheet_length, sheet_over, refusal_line, room_answer, responded};
+ghost use Rattle.sheets.specs.Reading.{counted};
+ghost use Rattle.methods.specs.Requests.{plan_for, steps_or, asked, sheet_length, sheet_over, refusal_line, room_answer, responded};
 
 use crate::method::Method;
 use crate::request::{PlanRequest, parse_request};
 use fields::write_field;
-use planning::check_request;
+use planning::check_exponent;
 use plans::{MOST_STEPS, NO_STEP, Plan, Step};
 use power_tree::PARENTS;
 use refusals::Refusal;
@@ -29,13 +30,9 @@ fn plan_request(
     ensures within { IfOk result (λ l. l ≤ 128) }
     ensures chain { IfOk result (λ l. Chain request.exponent (take l table.new)) }
 {
-    match Method::numbered(request.method, request.width) {
-        Some(method) => method.plan(request.exponent, table, parents),
-        None => {
-            check_request(false, request.exponent, table.len())?;
-            Ok(0)
-        }
-    }
+    check_exponent(request.exponent)?;
+    let method = Method::numbered(request.method, request.width).ok_or(Refusal::Method)?;
+    method.plan(request.exponent, table, parents)
 }
 
 // Writes the line of a refusal.
@@ -46,7 +43,7 @@ fn write_refusal(refusal: Refusal, out: &mut [u8]) -> usize
     ensures count { result ≡ length (refusal_line refusal) }
     ensures after { out.new ≡ refusal_line refusal ++ drop (length (refusal_line refusal)) out.old }
 {
-    write_field(&mut out[0..4], refusal.number() as u64);
+    write_field(&mut out[0..4], u64::from(refusal.number()));
     write_field(&mut out[4..8], refusal.place());
     out[8] = b'\n';
     9
@@ -62,8 +59,7 @@ fn write_plan(line: &[u8], out: &mut [u8]) -> Result<usize, Refusal>
     let mut table = [NO_STEP; MOST_STEPS];
     let mut parents = [0u16; PARENTS];
     let length = plan_request(request, &mut table, &mut parents)?;
-    let mut plan = Plan::one();
-    plan.admit(request.exponent, &table[0..length])?;
+    let plan = Plan::new(request.exponent, &table[..length])?;
     write_sheet(&plan, out)
 }
 

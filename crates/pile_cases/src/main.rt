@@ -1,30 +1,26 @@
 //! Piles of the three layers in all orders over each bank, and over a unit of another make, driven by one table of calls, good and bad,
 //! and compared, answer by answer and state by state, with a plain model of the rules.
-//! `numbers` has the kinds as plain numbers, `table` the calls, `model` the rules, `driving` the comparison, `piles` the orders, `ledger` the unit of another make.
+//! `table` has the calls, `model` the rules, `driving` the comparison, `piles` the orders, `ledger` the unit of another make.
 #![tactic(auto)]
 
 mod driving;
 mod ledger;
 mod model;
-mod numbers;
 mod piles;
 mod table;
 
-use banks::{CountsBank, RegisterBank, ResiduesBank};
-use driving::{Tally, compare_records};
-use kinds::Residues;
+use banks::Bank;
+use driving::{Tally, Trial};
+use kinds::{Counts, Residues};
 use ledger::Ledger;
 use model::{Layer, MOST_KEPT, Model, Setting};
-use numbers::Rule;
 use piles::drive_pile;
+use plain_numbers::Rule;
 use polynomials::Register;
-use std::io;
+use refusals::Refusal;
+use std::{fmt, io};
 
-const MODULUS: u64 = 4294967295;
-
-const POLYNOMIAL: u64 = 0x8000_0000_0000_0003;
-
-// A setting of this allowance, limit, and window.
+// A setting of this allowance, limit, and window, and with so many multiplications before the calls.
 const fn setting(allowance: u64, limit: u64, from: u8, size: u8, before: u16) -> Setting {
     Setting {
         allowance,
@@ -57,128 +53,104 @@ fn settings() -> [Setting; 16] {
     ]
 }
 
-// What lies at the bottom of a pile: a bank, or a ledger of so many cells.
+// What lies at the bottom of a pile: a bank of a kind, or a ledger of so many cells.
 #[derive(Clone, Copy)]
 enum Bottom {
-    Counts,
-    Residues,
-    Polynomials,
+    Bank(Rule),
     Ledger(u8),
 }
 
-fn rule_of(bottom: Bottom) -> Rule {
-    match bottom {
-        Bottom::Counts | Bottom::Ledger(_) => Rule::Sums,
-        Bottom::Residues => Rule::Residues(MODULUS),
-        Bottom::Polynomials => Rule::Polynomials(POLYNOMIAL),
+impl fmt::Display for Bottom {
+    fn fmt<W: fmt::Write>(&self, f: &mut fmt::Formatter<W>) -> fmt::Result {
+        f.write_str(match self {
+            Bottom::Bank(Rule::Sums) => "counts",
+            Bottom::Bank(Rule::Residues(_)) => "residues",
+            Bottom::Bank(Rule::Polynomials(_)) => "polynomials",
+            Bottom::Ledger(_) => "ledger",
+        })
     }
 }
 
-fn cells_of(bottom: Bottom) -> usize {
-    match bottom {
-        Bottom::Ledger(cells) => usize::from(cells),
-        _ => 32,
+impl Bottom {
+    fn rule(self) -> Rule {
+        match self {
+            Bottom::Bank(rule) => rule,
+            Bottom::Ledger(_) => Rule::Sums,
+        }
     }
-}
 
-// The allowance that the bottom is made with; a ledger has a place for each record.
-fn allowance_of(bottom: Bottom, allowance: u64) -> u64 {
-    match bottom {
-        Bottom::Ledger(_) => allowance.min(MOST_KEPT as u64),
-        _ => allowance,
+    fn cells(self) -> usize {
+        match self {
+            Bottom::Bank(_) => 32,
+            Bottom::Ledger(cells) => usize::from(cells),
+        }
     }
-}
 
-// Drives the pile of the model; nothing where there is no such bank.
-fn drive_bottom(bottom: Bottom, model: &mut Model, tally: &mut Tally) -> Option<()> {
-    let allowance = model.setting.allowance;
-    match bottom {
-        Bottom::Counts => {
-            let _bank = drive_pile(CountsBank::new(allowance), model, tally);
-        }
-        Bottom::Residues => {
-            let rule = Residues::new(MODULUS).ok()?;
-            let _bank = drive_pile(ResiduesBank::new(rule, allowance), model, tally);
-        }
-        Bottom::Polynomials => {
-            let rule = Register::new(POLYNOMIAL).ok()?;
-            let _bank = drive_pile(RegisterBank::new(rule, allowance), model, tally);
-        }
-        Bottom::Ledger(cells) => {
-            let ledger = drive_pile(Ledger::new(cells, allowance), model, tally);
-            compare_records(&ledger, model.bottom_records(), tally);
+    // The allowance that it is made with; a ledger has a place for each record.
+    fn allowance(self, allowance: u64) -> u64 {
+        match self {
+            Bottom::Bank(_) => allowance,
+            Bottom::Ledger(_) => allowance.min(MOST_KEPT as u64),
         }
     }
-    Some(())
+
+    // Drives the pile of the model over it; refused where there is no such kind.
+    fn drive(self, trial: &mut Trial<'_>) -> Result<(), Refusal> {
+        let allowance = trial.model.setting.allowance;
+        match self {
+            Bottom::Bank(Rule::Sums) => drive_pile(Bank::new(Counts, allowance), trial),
+            Bottom::Bank(Rule::Residues(p)) => {
+                drive_pile(Bank::new(Residues::new(p)?, allowance), trial);
+            }
+            Bottom::Bank(Rule::Polynomials(f)) => {
+                drive_pile(Bank::new(Register::new(f)?, allowance), trial);
+            }
+            Bottom::Ledger(cells) => drive_pile(Ledger::new(cells, allowance), trial),
+        }
+        Ok(())
+    }
 }
 
 // All settings of a pile.
-fn drive_settings(bottom: Bottom, layers: [Layer; 3]) -> Tally {
-    let mut tally = Tally {
-        calls: 0,
-        accepted: 0,
-        differ: 0,
-    };
+fn drive_settings(bottom: Bottom, layers: &[Layer; 3]) -> Tally {
+    let mut tally = Tally::default();
     for mut setting in settings() {
-        setting.allowance = allowance_of(bottom, setting.allowance);
-        let mut model = Model::new(rule_of(bottom), setting, layers, cells_of(bottom));
-        if drive_bottom(bottom, &mut model, &mut tally).is_none() {
-            tally.differ = tally.differ.saturating_add(1);
-        }
+        setting.allowance = bottom.allowance(setting.allowance);
+        let mut trial = Trial {
+            model: Model::new(bottom.rule(), setting, layers, bottom.cells()),
+            before: setting.before,
+            tally: &mut tally,
+        };
+        let driven = bottom.drive(&mut trial);
+        trial.tally.expect(driven.is_ok());
     }
     tally
 }
 
-fn layer_name(layer: Layer) -> &'static str {
-    match layer {
-        Layer::Quota => "quota",
-        Layer::Window => "window",
-        Layer::RunSheet => "run sheet",
-    }
-}
+const BOTTOMS: [Bottom; 5] = [
+    Bottom::Bank(Rule::Sums),
+    Bottom::Bank(Rule::Residues(4294967295)),
+    Bottom::Bank(Rule::Polynomials(0x8000_0000_0000_0003)),
+    Bottom::Ledger(0),
+    Bottom::Ledger(255),
+];
 
-fn bottom_name(bottom: Bottom) -> &'static str {
-    match bottom {
-        Bottom::Counts => "counts",
-        Bottom::Residues => "residues",
-        Bottom::Polynomials => "polynomials",
-        Bottom::Ledger(_) => "ledger",
-    }
-}
-
-fn print_pile(rt: &HostRuntime, bottom: Bottom, layers: [Layer; 3]) -> io::Result<()> {
-    let tally = drive_settings(bottom, layers);
-    let [first, second, third] = layers;
-    let first = layer_name(first);
-    let second = layer_name(second);
-    let third = layer_name(third);
-    let name = bottom_name(bottom);
-    let cells = cells_of(bottom);
-    print!(rt; "{first} on {second} on {third} on {name} of {cells} cells: ")?;
-    let calls = tally.calls;
-    let accepted = tally.accepted;
-    let differ = tally.differ;
-    println!(rt; "{calls} calls, {accepted} accepted, {differ} differ")
-}
+const ORDERS: [[Layer; 3]; 6] = [
+    [Layer::Quota, Layer::Window, Layer::RunSheet],
+    [Layer::Quota, Layer::RunSheet, Layer::Window],
+    [Layer::Window, Layer::Quota, Layer::RunSheet],
+    [Layer::Window, Layer::RunSheet, Layer::Quota],
+    [Layer::RunSheet, Layer::Quota, Layer::Window],
+    [Layer::RunSheet, Layer::Window, Layer::Quota],
+];
 
 fn main(rt: HostRuntime) -> io::Result<()> {
-    let orders = [
-        [Layer::Quota, Layer::Window, Layer::RunSheet],
-        [Layer::Quota, Layer::RunSheet, Layer::Window],
-        [Layer::Window, Layer::Quota, Layer::RunSheet],
-        [Layer::Window, Layer::RunSheet, Layer::Quota],
-        [Layer::RunSheet, Layer::Quota, Layer::Window],
-        [Layer::RunSheet, Layer::Window, Layer::Quota],
-    ];
-    for bottom in [
-        Bottom::Counts,
-        Bottom::Residues,
-        Bottom::Polynomials,
-        Bottom::Ledger(0),
-        Bottom::Ledger(255),
-    ] {
-        for layers in orders {
-            print_pile(&rt, bottom, layers)?;
+    for bottom in BOTTOMS {
+        for layers in ORDERS {
+            let tally = drive_settings(bottom, &layers);
+            let [first, second, third] = layers;
+            let cells = bottom.cells();
+            println!(rt; "{first} on {second} on {third} on {bottom} of {cells} cells: {tally}")?;
         }
     }
     Ok(())

@@ -1,144 +1,108 @@
 //! The three layers in each of their orders over a unit, driven, and taken off one by one.
-use crate::driving::{Tally, compare_records, drive};
-use crate::model::{Layer, Model};
-use crate::numbers::Number;
+use crate::driving::Trial;
+use crate::ledger::Ledger;
+use crate::model::{Layer, Setting};
+use banks::Bank;
 use kinds::Kind;
+use plain_numbers::Number;
 use quota::Quota;
 use run_sheet::RunSheet;
 use units::Unit;
 use window::Window;
 
-// A quota on a window on a run sheet.
-fn quota_window_sheet<B: Unit>(unit: B, model: &mut Model, tally: &mut Tally) -> B
+/// A unit at the bottom, or layers on one.
+pub(crate) trait Pile: Unit
 where
-    B::Value: Number,
+    Self::Value: Number,
 {
-    let set = model.setting;
-    let sheet = RunSheet::new(unit);
-    let window = Window::new(sheet, set.from, set.size);
-    let mut quota = Quota::new(window, set.limit);
-    drive(&mut quota, 0, model, tally);
-    let mut window = quota.take_off();
-    drive(&mut window, 1, model, tally);
-    let mut sheet = window.take_off();
-    drive(&mut sheet, 2, model, tally);
-    compare_records(&sheet, model.records(), tally);
-    let mut unit = sheet.take_off();
-    drive(&mut unit, 3, model, tally);
-    unit
+    /// Drives the pile, takes its uppermost layer off, and goes on with what lies below.
+    fn drive(self, trial: &mut Trial<'_>);
 }
 
-// A quota on a run sheet on a window.
-fn quota_sheet_window<B: Unit>(unit: B, model: &mut Model, tally: &mut Tally) -> B
+impl<K: Kind + Drop> Pile for Bank<K>
 where
-    B::Value: Number,
+    K::Value: Number,
 {
-    let set = model.setting;
-    let window = Window::new(unit, set.from, set.size);
-    let sheet = RunSheet::new(window);
-    let mut quota = Quota::new(sheet, set.limit);
-    drive(&mut quota, 0, model, tally);
-    let mut sheet = quota.take_off();
-    drive(&mut sheet, 1, model, tally);
-    compare_records(&sheet, model.records(), tally);
-    let mut window = sheet.take_off();
-    drive(&mut window, 2, model, tally);
-    let mut unit = window.take_off();
-    drive(&mut unit, 3, model, tally);
-    unit
+    fn drive(self, trial: &mut Trial<'_>) {
+        let mut bank = self;
+        trial.drive(&mut bank);
+    }
 }
 
-// A window on a quota on a run sheet.
-fn window_quota_sheet<B: Unit>(unit: B, model: &mut Model, tally: &mut Tally) -> B
-where
-    B::Value: Number,
-{
-    let set = model.setting;
-    let sheet = RunSheet::new(unit);
-    let quota = Quota::new(sheet, set.limit);
-    let mut window = Window::new(quota, set.from, set.size);
-    drive(&mut window, 0, model, tally);
-    let mut quota = window.take_off();
-    drive(&mut quota, 1, model, tally);
-    let mut sheet = quota.take_off();
-    drive(&mut sheet, 2, model, tally);
-    compare_records(&sheet, model.records(), tally);
-    let mut unit = sheet.take_off();
-    drive(&mut unit, 3, model, tally);
-    unit
+impl Pile for Ledger {
+    fn drive(self, trial: &mut Trial<'_>) {
+        let mut ledger = self;
+        trial.drive(&mut ledger);
+        let same = ledger.records() == trial.model.bottom_records();
+        trial.tally.expect(same);
+    }
 }
 
-// A window on a run sheet on a quota.
-fn window_sheet_quota<B: Unit>(unit: B, model: &mut Model, tally: &mut Tally) -> B
+impl<U: Pile> Pile for Quota<U>
 where
-    B::Value: Number,
+    U::Value: Number,
 {
-    let set = model.setting;
-    let quota = Quota::new(unit, set.limit);
-    let sheet = RunSheet::new(quota);
-    let mut window = Window::new(sheet, set.from, set.size);
-    drive(&mut window, 0, model, tally);
-    let mut sheet = window.take_off();
-    drive(&mut sheet, 1, model, tally);
-    compare_records(&sheet, model.records(), tally);
-    let mut quota = sheet.take_off();
-    drive(&mut quota, 2, model, tally);
-    let mut unit = quota.take_off();
-    drive(&mut unit, 3, model, tally);
-    unit
+    fn drive(self, trial: &mut Trial<'_>) {
+        let mut quota = self;
+        trial.drive(&mut quota);
+        trial.model.take_off();
+        quota.take_off().drive(trial);
+    }
 }
 
-// A run sheet on a quota on a window.
-fn sheet_quota_window<B: Unit>(unit: B, model: &mut Model, tally: &mut Tally) -> B
+impl<U: Pile> Pile for Window<U>
 where
-    B::Value: Number,
+    U::Value: Number,
 {
-    let set = model.setting;
-    let window = Window::new(unit, set.from, set.size);
-    let quota = Quota::new(window, set.limit);
-    let mut sheet = RunSheet::new(quota);
-    drive(&mut sheet, 0, model, tally);
-    compare_records(&sheet, model.records(), tally);
-    let mut quota = sheet.take_off();
-    drive(&mut quota, 1, model, tally);
-    let mut window = quota.take_off();
-    drive(&mut window, 2, model, tally);
-    let mut unit = window.take_off();
-    drive(&mut unit, 3, model, tally);
-    unit
+    fn drive(self, trial: &mut Trial<'_>) {
+        let mut window = self;
+        trial.drive(&mut window);
+        trial.model.take_off();
+        window.take_off().drive(trial);
+    }
 }
 
-// A run sheet on a window on a quota.
-fn sheet_window_quota<B: Unit>(unit: B, model: &mut Model, tally: &mut Tally) -> B
+impl<U: Pile> Pile for RunSheet<U>
 where
-    B::Value: Number,
+    U::Value: Number,
 {
-    let set = model.setting;
-    let quota = Quota::new(unit, set.limit);
-    let window = Window::new(quota, set.from, set.size);
-    let mut sheet = RunSheet::new(window);
-    drive(&mut sheet, 0, model, tally);
-    compare_records(&sheet, model.records(), tally);
-    let mut window = sheet.take_off();
-    drive(&mut window, 1, model, tally);
-    let mut quota = window.take_off();
-    drive(&mut quota, 2, model, tally);
-    let mut unit = quota.take_off();
-    drive(&mut unit, 3, model, tally);
-    unit
+    fn drive(self, trial: &mut Trial<'_>) {
+        let mut sheet = self;
+        trial.drive(&mut sheet);
+        trial.compare_sheet(&sheet);
+        trial.model.take_off();
+        sheet.take_off().drive(trial);
+    }
 }
 
-/// Drives the pile that the model is of, over a unit, and hands back the unit.
-pub(crate) fn drive_pile<B: Unit>(unit: B, model: &mut Model, tally: &mut Tally) -> B
+impl Setting {
+    fn quota<U: Unit>(self, below: U) -> Quota<U> {
+        Quota::new(below, self.limit)
+    }
+
+    fn window<U: Unit>(self, below: U) -> Window<U> {
+        Window::new(below, self.from, self.size)
+    }
+}
+
+/// Drives the pile that the model is of, over a unit.
+pub(crate) fn drive_pile<B: Pile>(unit: B, trial: &mut Trial<'_>)
 where
     B::Value: Number,
 {
-    match model.layers {
-        [Layer::Quota, Layer::Window, _] => quota_window_sheet(unit, model, tally),
-        [Layer::Quota, _, _] => quota_sheet_window(unit, model, tally),
-        [Layer::Window, Layer::Quota, _] => window_quota_sheet(unit, model, tally),
-        [Layer::Window, _, _] => window_sheet_quota(unit, model, tally),
-        [Layer::RunSheet, Layer::Quota, _] => sheet_quota_window(unit, model, tally),
-        [Layer::RunSheet, _, _] => sheet_window_quota(unit, model, tally),
+    let set = trial.model.setting;
+    match trial.model.layers {
+        [Layer::Quota, Layer::Window, ..] => set
+            .quota(set.window(RunSheet::new(unit)))
+            .drive(trial),
+        [Layer::Quota, ..] => set.quota(RunSheet::new(set.window(unit))).drive(trial),
+        [Layer::Window, Layer::Quota, ..] => set
+            .window(set.quota(RunSheet::new(unit)))
+            .drive(trial),
+        [Layer::Window, ..] => set.window(RunSheet::new(set.quota(unit))).drive(trial),
+        [Layer::RunSheet, Layer::Quota, ..] => RunSheet::new(set.quota(set.window(unit))).drive(
+            trial,
+        ),
+        _ => RunSheet::new(set.window(set.quota(unit))).drive(trial),
     }
 }

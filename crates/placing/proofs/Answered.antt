@@ -1,5 +1,5 @@
 -- What placing answers and leaves, case by case. Assumes nothing.
-use Rattle.std.proofs.Common.{◌≡◌, ℕ, ◌+◌, ◌<◌, ◌≤◌, List, ◌++◌, length, take, drop, Ok, Err, Result, sym, ap, ◌∙◌, subst}
+use Rattle.std.proofs.Common.{◌≡◌, ℕ, ◌+◌, ◌<◌, ◌≤◌, List, ◌++◌, length, drop, Ok, Err, Result, sym, ap, ◌∙◌, subst}
 use Rattle.std.proofs.Math.Seq.{drop-append_seam}
 use Rattle.std.proofs.lemmas.Bool.{lt-leb, le-leb}
 use Rattle.refusals.specs.declared.refusal.Refusal.{Refusal}
@@ -23,9 +23,10 @@ placed_ok steps c places n h e l =
     let a = le-leb _ _ h in let b = rw e at (le-leb _ _ l) in simp (a, b, e)
 
 -- the cells go into the first places of the table, and the rest stays
-pub leaves_cells : (steps : List Step) (table part cells : List ℕ) (k n : ℕ) → k ≡ length steps + 1 → part ≡ take k cells →
-    take (length steps + 1) cells ≡ supplied_cells steps → LeavesCells steps table (part ++ drop k table) (Ok n)
-leaves_cells steps table part cells k n e copied is = rw (copied, e, is)
+pub leaves_cells : (steps : List Step) (table part : List ℕ) (k n : ℕ) → k ≡ length part → part ≡ supplied_cells steps → LeavesCells steps table (part ++ drop k table) (Ok n)
+leaves_cells steps table part k n e is =
+    let l : k ≡ length steps + 1 = e ∙ ap length is ∙ length_supplied steps in
+    rw (is, l)
 
 -- what stands behind the supplied cells
 pub rest_supplied : (steps : List Step) (table rest : List ℕ) → table ≡ supplied_cells steps ++ rest → drop (length steps + 1) table ≡ rest
@@ -40,7 +41,5 @@ leaves_named steps old new (Ok n) h = (
   rest_supplied steps new (drop (length steps + 1) old) h,
 )
 
-pub leaves_ok : (steps : List Step) (table part cells : List ℕ) (k n : ℕ) → k ≡ length steps + 1 → part ≡ take k cells →
-    take (length steps + 1) cells ≡ supplied_cells steps → Leaves steps table (part ++ drop k table) (Ok n)
-leaves_ok steps table part cells k n e copied is =
-    leaves_named steps table (part ++ drop k table) (Ok n) (leaves_cells steps table part cells k n e copied is)
+pub leaves_ok : (steps : List Step) (table part : List ℕ) (k n : ℕ) → k ≡ length part → part ≡ supplied_cells steps → Leaves steps table (part ++ drop k table) (Ok n)
+leaves_ok steps table part k n e is = leaves_named steps table (part ++ drop k table) (Ok n) (leaves_cells steps table part k n e is)

@@ -30,9 +30,8 @@ pub fn place(plan: &Plan<'_>, cells: u8, places: &mut [u8]) -> Result<u8, Refusa
     }
     let arranged = arrange(plan);
     if cells < arranged.used {
-        return Err(Refusal::NeedAbove(arranged.used as u64));
+        return Err(Refusal::NeedAbove(u64::from(arranged.used)));
     }
-    let values = plan.len() + 1;
-    places[..values].copy_from_slice(&arranged.cells[..values]);
+    places[..arranged.cells.len()].copy_from_slice(&arranged.cells);
     Ok(arranged.used)
 }

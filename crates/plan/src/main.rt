@@ -15,10 +15,7 @@ fn read_line(input: &mut impl Read, buffer: &mut [u8]) -> io::Result<usize>
     ensures { IfOk result (λ n. n ≤ length buffer.new) }
 {
     let mut have = 0;
-    for _ in 0..buffer.len() {
-        if have == buffer.len() {
-            break;
-        }
+    while have < buffer.len() {
         let got = input.read(&mut buffer[have..])?;
         if got == 0 {
             break;

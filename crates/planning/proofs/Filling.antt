@@ -36,13 +36,3 @@ filled_many plan was now len (x ∷ xs) rest h f =
     let k : suc len + length xs ≡ len + suc (length xs) = omega arith in
     subst (λ (y : ℕ). Filled plan was (sets (set now len x) (suc len) xs) y rest) k
     (filled_many plan was (set now len x) (suc len) xs rest (omega (arith, length-set now len x)) g)
-
--- filling that goes on from a table that was filled before
-pub filled_again : (plan was mid : List Step) (len : ℕ) (rest : List Step) → Filled plan was mid len rest → Filled plan mid mid len rest
-filled_again plan was mid len rest f = record { front = f.front; back = refl }
-
-pub filled_since : (plan was mid now : List Step) (a len : ℕ) (rest end : List Step) → a ≤ len → Filled plan was mid a rest → Filled plan mid now len end → Filled plan was now len end
-filled_since plan was mid now a len rest end h f g =
-    let e : a + (len - a) ≡ len = omega arith in
-    let s : drop len mid ≡ drop len was = ap (λ (x : ℕ). drop x mid) (sym e) ∙ sym (drop-drop (len - a) a mid) ∙ ap (drop (len - a)) f.back ∙ drop-drop (len - a) a was ∙ ap (λ (x : ℕ). drop x was) e in
-    record { front = g.front; back = g.back ∙ s }

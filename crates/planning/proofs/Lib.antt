@@ -2,4 +2,5 @@ pub mod Powers
 pub mod Filling
 pub mod Growing
 pub mod Pushing
-pub mod Refusing
+pub mod Finishing
+pub mod Writing

@@ -1,26 +1,10 @@
 -- Powers of two and the highest one bit. Assumes nothing.
-use Rattle.std.proofs.Common.{◌≡◌, ℕ, zero, suc, ◌+◌, ◌*◌, ◌/◌, ◌%◌, ◌^◌, ◌<◌, ◌≤◌, true, false, leb, sym, ap, ◌∙◌, subst, ⊎_elim, mul-le-mul_right, mul_assoc, suc-mul, mul-le-mul, mul-le-mul_left, pow-suc, div-add-mod', mul-one, add-one, arith, pow_pos, pow_mono, pow-add, shr-shr}
+use Rattle.std.proofs.Common.{◌≡◌, ℕ, suc, ◌+◌, ◌*◌, ◌/◌, ◌%◌, ◌^◌, ◌<◌, ◌≤◌, sym, ap, ◌∙◌, ⊎_elim, mul-le-mul_right, mul_assoc, suc-mul, mul-le-mul, mul-le-mul_left, div-add-mod', add-one, arith, pow_pos, pow_mono, pow-add, shr-shr}
 use native.Mathlib.Nat.{div-eq_of_lt-le}
 use Rattle.std.proofs.lemmas.Nat.{mod_below}
-use Rattle.std.proofs.lemmas.Bool.{le-leb, lt-leb, leb-true, leb-false, cases_lt, cases_eq, cond_both}
-use Rattle.planning.specs.Bits.{top_under, top, bit_at}
-
-under_is : (m t n : ℕ) → t ≤ m → 2 ^ t ≤ n → n < 2 * 2 ^ t → top_under m n ≡ t
-unfolding top_under
-under_is zero t n h low high = omega arith
-under_is (suc m) t n h low high =
-    ⊎_elim
-    (λ (e : t ≡ suc m). let b : leb (2 ^ suc m) n ≡ true = le-leb _ _ (subst (λ (x : ℕ). 2 ^ x ≤ n) e low) in rw b (sym e))
-    (λ (e : t ≡ suc m → ⊥).
-    let q : 2 ^ suc t ≤ 2 ^ suc m = pow_mono (omega arith) in
-    let b : leb (2 ^ suc m) n ≡ false = lt-leb _ _ (omega (arith, pow-suc 2 t)) in
-    rw b (under_is m t n (omega arith) low high))
-    (cases_eq t (suc m))
-
--- the place t with 2 ^ t ≤ n < 2 ^ (t + 1) is the top
-pub top_is : (t n : ℕ) → t < 64 → 2 ^ t ≤ n → n < 2 * 2 ^ t → top n ≡ t
-unfolding top
-top_is t n h low high = under_is 63 t n (omega arith) low high
+use Rattle.std.proofs.lemmas.Bool.{cases_lt}
+use Rattle.bits.specs.Bits.{top, bit_at}
+use Rattle.bits.proofs.Tops.{top_is, top_low, top_high, top_max}
 
 -- one bit more of n
 pub halves : (n b : ℕ) → n / 2 ^ b ≡ n / 2 ^ suc b + n / 2 ^ suc b + bit_at n b
@@ -33,45 +17,12 @@ halves n b =
 pub top_below : (t n : ℕ) → 2 ^ t ≤ n → n < 2 ^ 63 → t ≤ 62
 top_below t n l h = ⊎_elim (λ (e : t < 63). omega arith) (λ (e : 63 ≤ t). let p : 2 ^ 63 ≤ 2 ^ t = pow_mono e in omega arith) (cases_lt t 63)
 
-under_low : (m n : ℕ) → 1 ≤ n → 2 ^ top_under m n ≤ n
-unfolding top_under
-under_low zero n h = omega arith
-under_low (suc m) n h =
-    cond_both (leb (2 ^ suc m) n) (suc m) (top_under m n) (λ (x : ℕ). 2 ^ x ≤ n) (λ e. leb-true _ _ e) (λ e. under_low m n h)
-
-under_max : (m t n : ℕ) → t ≤ m → 2 ^ t ≤ n → t ≤ top_under m n
-unfolding top_under
-under_max zero t n h l = omega arith
-under_max (suc m) t n h l =
-    cond_both (leb (2 ^ suc m) n) (suc m) (top_under m n) (λ (x : ℕ). t ≤ x) (λ e. h)
-    (λ e.
-    let f = leb-false _ _ e in
-    let ne : t ≡ suc m → ⊥ = λ q. let g : 2 ^ suc m ≤ n = subst (λ (x : ℕ). 2 ^ x ≤ n) q l in omega arith in
-    under_max m t n (omega arith) l)
-
-pub top_low : (n : ℕ) → 1 ≤ n → 2 ^ top n ≤ n
-unfolding top
-top_low n h = under_low 63 n h
-
-pub top_max : (t n : ℕ) → n < 2 ^ 64 → 2 ^ t ≤ n → t ≤ top n
-unfolding top
-top_max t n h l = ⊎_elim (λ (e : t < 64). under_max 63 t n (omega arith) l) (λ (e : 64 ≤ t). let p : 2 ^ 64 ≤ 2 ^ t = pow_mono e in let no : ⊥ = omega arith in absurd no) (cases_lt t 64)
-
-pub top_high : (n : ℕ) → n < 2 ^ 64 → n < 2 * 2 ^ top n
-top_high n h =
-    ⊎_elim (λ (e : n < 2 * 2 ^ top n). e)
-    (λ (e : 2 * 2 ^ top n ≤ n).
-    let p = pow-suc 2 (top n) in
-    let m = top_max (suc (top n)) n h (omega arith) in
-    absurd (let no : ⊥ = omega arith in no))
-    (cases_lt n (2 * 2 ^ top n))
-
 pub top_less : (k n : ℕ) → 1 ≤ n → n < 2 ^ k → top n < k
 top_less k n l h = ⊎_elim (λ (e : top n < k). e) (λ (e : k ≤ top n). let p : 2 ^ k ≤ 2 ^ top n = pow_mono e in absurd (let no : ⊥ = omega (arith, top_low n l) in no)) (cases_lt (top n) k)
 
 -- from it on a number is 1
 pub top_one : (n : ℕ) → 1 ≤ n → n < 2 ^ 64 → n / 2 ^ top n ≡ 1
-top_one n a h = let l = top_low n a in let u = top_high n h in div-eq_of_lt-le (2 ^ top n) (omega arith) (omega arith)
+top_one n a h = let l = top_low n a in let u = top_high n in div-eq_of_lt-le (2 ^ top n) (omega arith) (omega arith)
 
 -- with k bits more below it the highest bit stands k places up
 pub top_shifted : {n q : ℕ} (k : ℕ) → n / 2 ^ k ≡ q → 1 ≤ q → n < 2 ^ 63 → top n ≡ top q + k
@@ -79,16 +30,16 @@ top_shifted {n} {q} k e l b =
     let s : q * 2 ^ k + n % 2 ^ k ≡ n = ap (λ (x : ℕ). x * 2 ^ k + n % 2 ^ k) (sym e) ∙ div-add-mod' n (2 ^ k) in
     let r : n % 2 ^ k < 2 ^ k = mod_below n (2 ^ k) (pow_pos k) in
     let a : q * 1 ≤ q * 2 ^ k = mul-le-mul_left q (pow_pos k) in
-    let u : suc q ≤ 2 * 2 ^ top q = top_high q (omega (arith, mul-one q)) in
+    let u : suc q ≤ 2 * 2 ^ top q = top_high q in
     let p : 2 ^ (top q + k) ≡ 2 ^ top q * 2 ^ k = pow-add 2 (top q) k in
     let low : 2 ^ top q * 2 ^ k ≤ q * 2 ^ k = mul-le-mul_right (2 ^ k) (top_low q l) in
     let up : suc q * 2 ^ k ≤ 2 * 2 ^ top q * 2 ^ k = mul-le-mul_right (2 ^ k) u in
     let high : n < 2 * 2 ^ (top q + k) = omega (arith, suc-mul q (2 ^ k), mul_assoc 2 (2 ^ top q) (2 ^ k)) in
     let t : top q + k ≤ 62 = top_below (top q + k) n (omega arith) b in
-    top_is (top q + k) n (omega arith) (omega arith) high
+    top_is (top q + k) n (omega arith) high
 
 pub top_mono : (m n : ℕ) → 1 ≤ m → m ≤ n → n < 2 ^ 64 → top m ≤ top n
-top_mono m n l h b = top_max (top m) n b (omega (arith, top_low m l))
+top_mono m n l h b = top_max (top m) n (omega (arith, top_low m l))
 
 pub top_product : (p q : ℕ) → 1 ≤ p → 1 ≤ q → p * q < 2 ^ 64 → top p + top q ≤ top (p * q)
-top_product p q a b h = top_max (top p + top q) (p * q) h (rw (pow-add 2 (top p) (top q)) (mul-le-mul (top_low p a) (top_low q b)))
+top_product p q a b h = top_max (top p + top q) (p * q) (rw (pow-add 2 (top p) (top q)) (mul-le-mul (top_low p a) (top_low q b)))

@@ -12,6 +12,10 @@ step j k value = record { j = j; k = k; value = value }
 abbrev pub is_exponent : ℕ → Bool
 is_exponent n = nat_le 1 n && nat_lt n (2 ^ 63)
 
+-- whether n is an exponent
+abbrev pub exponent_request : ℕ → Result (Unit {0}) Refusal
+exponent_request n = cond (is_exponent n) (Ok tt) (Err Exponent)
+
 -- whether a method that allows n, or does not, plans into a table of so many places: the exponent, the method, the table, in this order
 abbrev pub request : Bool → ℕ → ℕ → Result (Unit {0}) Refusal
 request allowed n places =

@@ -1,8 +1,7 @@
 //! The rules of a plan, checked in their order.
-ghost use Rattle.std.specs.Prelude.{◌≡◌, ℕ, ◌^◌, ◌<◌, ◌≤◌, length, is_ok, IfErr, Decides, OnOk};
+ghost use Rattle.std.specs.Prelude.{◌≡◌, ℕ, ◌^◌, ◌<◌, ◌≤◌, [], ◌∷◌, ◌++◌, length};
 ghost use Rattle.plans.specs.Admission.{admission, step_answer};
-ghost use Rattle.plans.specs.Chain.{Chain, value_at};
-ghost use Rattle.plans.specs.FirstFault.{FirstFault};
+ghost use Rattle.plans.specs.Chain.{value_at};
 
 use crate::limits::{MOST_STEPS, TOP_EXPONENT};
 use crate::step::Step;
@@ -19,32 +18,30 @@ fn value_at(steps: &[Step], i: usize) -> u64
     steps[i - 1].value
 }
 
-// Whether step i + 1 keeps the rules.
-fn check_step(n: u64, steps: &[Step], i: usize) -> Result<(), Refusal>
-    requires within { i < length steps.now }
-    requires short { length steps.now ≤ 128 }
+// Whether a step keeps the rules after those before it, which keep them.
+fn check_step(n: u64, before: &[Step], step: &Step) -> Result<(), Refusal>
+    requires short { length before.now < 128 }
     requires bounded { n < 2 ^ 63 }
-    requires below { (m : ℕ) → m ≤ i → value_at steps.now m ≤ n }
-    ensures { result ≡ step_answer n steps.now i }
+    requires below { (m : ℕ) → m ≤ length before.now → value_at before.now m ≤ n }
+    ensures { result ≡ step_answer n (before.now ++ (step.now ∷ [])) (length before.now) }
 {
-    let step = steps[i];
-    let number = (i + 1) as u64;
+    let number = (before.len() + 1) as u64;
     let j = usize::from(step.j);
     let k = usize::from(step.k);
-    if k > j || j > i {
+    if k > j || j > before.len() {
         return Err(Refusal::Citation(number));
     }
-    if step.value != value_at(steps, j) + value_at(steps, k) {
+    if step.value != value_at(before, j) + value_at(before, k) {
         return Err(Refusal::NotSum(number));
     }
-    if step.value <= value_at(steps, i) || step.value > n {
+    if step.value <= value_at(before, before.len()) || step.value > n {
         return Err(Refusal::NotRising(number));
     }
     Ok(())
 }
 
-// The rules in their order: the exponent, the length, each step, and that n is reached.
-fn check_rules(n: u64, steps: &[Step]) -> Result<(), Refusal>
+// Whether the steps are an ascending addition chain for n. The rules in their order: the exponent, the length, each step, and that n is reached.
+pub(crate) fn check_chain(n: u64, steps: &[Step]) -> Result<(), Refusal>
     ensures { result ≡ admission n steps.now }
 {
     if n == 0 || n > TOP_EXPONENT {
@@ -53,21 +50,11 @@ fn check_rules(n: u64, steps: &[Step]) -> Result<(), Refusal>
     if steps.len() > MOST_STEPS {
         return Err(Refusal::TooLong);
     }
-    for i in 0..steps.len() {
-        check_step(n, steps, i)?;
+    for (i, step) in steps.iter().enumerate() {
+        check_step(n, &steps[..i], step)?;
     }
     if value_at(steps, steps.len()) != n {
         return Err(Refusal::NotReached(steps.len() as u64));
     }
     Ok(())
-}
-
-// Whether the steps are an ascending addition chain for n.
-pub(crate) fn check_chain(n: u64, steps: &[Step]) -> Result<(), Refusal>
-    ensures answer { result ≡ admission n steps.now }
-    ensures exactly { Decides (is_ok result) (Chain n steps.now) }
-    ensures chain { OnOk result (Chain n steps.now) }
-    ensures refused { IfErr result (λ e. FirstFault n steps.now e) }
-{
-    check_rules(n, steps)
 }

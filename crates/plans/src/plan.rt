@@ -1,5 +1,5 @@
 //! The admitted plan.
-ghost use Rattle.std.specs.Prelude.{◌≡◌, ◌^◌, ◌<◌, ◌≤◌, [], length, is_ok, IfErr, Decides, MatchResult};
+ghost use Rattle.std.specs.Prelude.{◌≡◌, ◌^◌, ◌<◌, ◌≤◌, [], length, is_ok, IfOk, IfErr, Ok, Err, Decides, MatchResult};
 ghost use Rattle.plans.specs.Admission.{admission};
 ghost use Rattle.plans.specs.Chain.{Cites, Sums, Rises, Reaches, Chain};
 ghost use Rattle.plans.specs.FirstFault.{FirstFault};
@@ -35,16 +35,26 @@ impl<'a> Plan<'a> {
         }
     }
 
-    /// Admits the steps as a plan of n into this place; refused, the place stays as it was.
+    /// The plan of n that these steps are, if they are admitted.
     /// The rules are checked in order: the exponent, the length, step by step the citation, the sum, the rise, and last that n is reached.
+    pub fn new(n: u64, steps: &'a [Step]) -> Result<Plan<'a>, Refusal>
+        ensures answer { MatchResult result (λ _. admission n steps.now ≡ Ok tt) (λ e. admission n steps.now ≡ Err e) }
+        ensures plan { IfOk result (λ p. (p.exponent ≡ n) × (p.steps.now ≡ steps.now)) }
+        ensures exactly { Decides (is_ok result) (Chain n steps.now) }
+        ensures refused { IfErr result (λ e. FirstFault n steps.now e) }
+    {
+        check_chain(n, steps)?;
+        Ok(Plan { exponent: n, steps })
+    }
+
+    /// Admits the steps as a plan of n into this place, by the same rules; refused, the place stays as it was.
     pub fn admit(&mut self, n: u64, steps: &'a [Step]) -> Result<(), Refusal>
         ensures answer { result ≡ admission n steps.now }
         ensures exactly { Decides (is_ok result) (Chain n steps.now) }
         ensures refused { IfErr result (λ e. FirstFault n steps.now e) }
         ensures after { MatchResult result (λ _. (self.new.exponent ≡ n) × (self.new.steps.now ≡ steps.now)) (λ _. self.new ≡ self.old) }
     {
-        check_chain(n, steps)?;
-        *self = Plan { exponent: n, steps };
+        *self = Plan::new(n, steps)?;
         Ok(())
     }
 
@@ -68,7 +78,6 @@ impl<'a> Plan<'a> {
         ensures count { result ≡ length self.now.steps.now }
         ensures short { result ≤ 128 }
     {
-        let steps = self.steps;
-        steps.len()
+        self.steps.len()
     }
 }

@@ -1,9 +1,7 @@
 -- Products four bits at a time. Assumes nothing.
-use Rattle.std.proofs.Common.{◌≡◌, ℕ, zero, suc, ◌+◌, ◌-◌, ◌*◌, ◌/◌, ◌%◌, ◌^◌, ◌<◌, ◌≤◌, List, length, get_or, set, sym, ap, ◌∙◌, subst, ap₂, inl, inr, add-zero, add-suc, mul-le-mul_right, mod-lt, mul_assoc, mul_comm, one-mul, pow-suc, div-add-mod', zero-mul, mul-one, arith, pow_pos, pow_mono, pow-add, shr-shr}
-use lib.Pow.{shr_le, mod-pow-add, mod-mod-pow, split}
-use lib.Bits.{bit_xor, bit_and, and_mask, xor_assoc, xor_comm, xor_zero_r, xor_block, xor_lt, xor_shifted, xor_self}
-use Rattle.std.proofs.lemmas.List.{get_or-set_same, get_or-set_other, length-set}
-use Rattle.std.proofs.lemmas.Bool.{cases_eq}
+use Rattle.std.proofs.Common.{◌≡◌, ℕ, zero, suc, ◌+◌, ◌-◌, ◌*◌, ◌/◌, ◌%◌, ◌^◌, ◌<◌, ◌≤◌, sym, ap, ◌∙◌, subst, ap₂, add-zero, add-suc, mul-le-mul_right, mod-lt, mul_assoc, mul_comm, one-mul, pow-suc, div-add-mod', zero-mul, mul-one, arith, pow_pos, pow_mono, pow-add, shr-shr}
+use lib.Pow.{shr_le, mod-pow-add, split}
+use lib.Bits.{bit_xor, xor_assoc, xor_comm, xor_zero_r, xor_block, xor_lt, xor_shifted, xor_self}
 use Rattle.bits.specs.Bits.{top}
 use Rattle.polynomial_ring.specs.Polynomials.{times, reduce, rem}
 use Rattle.polynomial_ring.proofs.Products.{times_zero, times_step, times_add_l, times_add_r, times_dbl_r, times_one_l, times_comm, times_assoc}
@@ -58,43 +56,6 @@ times_lt (suc k) m a b ha hb =
     let high : times a (b / 2) * 2 < 2 ^ suc (m + k) = omega arith in
     subst (λ (x : ℕ). times a b < 2 ^ x) (sym e)
     (subst (λ (x : ℕ). x < 2 ^ suc (m + k)) (sym (times_step a b)) (xor_lt (suc (m + k)) (b % 2 * a) (times a (b / 2) * 2) low high))
-
--- two more entries of a row: what it has below 2 h it then has below 2 (h + 1)
-pub row_more : (P : ℕ → ℕ → Type 0) (row : List ℕ) (h x y : ℕ) → 2 * h + 1 < length row →
-    ((m : ℕ) → m < 2 * h → P m (get_or row m 0)) → P (2 * h) x → P (2 * h + 1) y →
-    (m : ℕ) → m < 2 * (h + 1) → P m (get_or (set (set row (2 * h) x) (2 * h + 1) y) m 0)
-row_more P row h x y l old px py m k =
-    let one : List ℕ = set row (2 * h) x in
-    let long : 2 * h + 1 < length one = omega (arith, length-set row (2 * h) x) in
-    elim (cases_eq m (2 * h + 1)) [
-      | inl e ↦
-          let v : get_or (set one (2 * h + 1) y) m 0 ≡ y = ap (λ (n : ℕ). get_or (set one (2 * h + 1) y) n 0) e ∙ get_or-set_same one (2 * h + 1) y 0 long in
-          subst (P m) (sym v) (subst (λ (n : ℕ). P n y) (sym e) py)
-      | inr ne ↦ elim (cases_eq m (2 * h)) [
-        | inl e ↦
-            let v : get_or (set one (2 * h + 1) y) m 0 ≡ x =
-            get_or-set_other one (2 * h + 1) m y 0 ne ∙ ap (λ (n : ℕ). get_or one n 0) e ∙ get_or-set_same row (2 * h) x 0 (omega arith) in
-            subst (P m) (sym v) (subst (λ (n : ℕ). P n x) (sym e) px)
-        | inr nf ↦
-            let v : get_or (set one (2 * h + 1) y) m 0 ≡ get_or row m 0 =
-            get_or-set_other one (2 * h + 1) m y 0 ne ∙ get_or-set_other row (2 * h) m x 0 nf in
-            subst (P m) (sym v) (old m (omega arith))
-      ]
-    ]
-
--- the first two entries
-pub row_first : (P : ℕ → ℕ → Type 0) (row : List ℕ) (y : ℕ) → 1 < length row → get_or row 0 0 ≡ 0 → P 0 0 → P 1 y →
-    (m : ℕ) → m < 2 → P m (get_or (set row 1 y) m 0)
-row_first P row y l z px py m k =
-    elim (cases_eq m 1) [
-      | inl e ↦
-          let v : get_or (set row 1 y) m 0 ≡ y = ap (λ (n : ℕ). get_or (set row 1 y) n 0) e ∙ get_or-set_same row 1 y 0 l in
-          subst (P m) (sym v) (subst (λ (n : ℕ). P n y) (sym e) py)
-      | inr ne ↦
-          let e : m ≡ 0 = omega arith in
-          let v : get_or (set row 1 y) m 0 ≡ 0 = get_or-set_other row 1 m y 0 ne ∙ ap (λ (n : ℕ). get_or row n 0) e ∙ z in
-          subst (P m) (sym v) (subst (λ (n : ℕ). P n 0) (sym e) px)
-    ]
 
 -- what is above the lowest four bits
 pub high_part : (b i : ℕ) → b < 2 ^ 64 → 0 < i → b / 2 ^ (4 * i) < 2 ^ 60
@@ -188,13 +149,6 @@ module _ (f : ℕ) (pos : 0 < f) where
       ap (λ (x : ℕ). bit_xor x (rem f (p / 2 ^ n * 2 ^ n))) (sym (rem_below f pos (p % 2 ^ n) l))
       ∙ sym (rem_add f pos (p % 2 ^ n) (p / 2 ^ n * 2 ^ n))
       ∙ ap (rem f) (xor_comm (p % 2 ^ n) (p / 2 ^ n * 2 ^ n) ∙ xor_shifted (p / 2 ^ n) n (p % 2 ^ n) l ∙ split p n)
-
--- the lowest n bits, by way of the lowest 64
-pub low_part : (p n : ℕ) → n < 64 → bit_and (bit_and p (2 ^ 64 - 1)) (2 ^ n - 1) ≡ p % 2 ^ n
-low_part p n h =
-    let e : (64 - n) + n ≡ 64 = omega arith in
-    and_mask (bit_and p (2 ^ 64 - 1)) n ∙ ap (λ (x : ℕ). x % 2 ^ n) (and_mask p 64)
-    ∙ ap (λ (m : ℕ). p % 2 ^ m % 2 ^ n) (sym e) ∙ mod-mod-pow p (64 - n) n
 
 -- no bits of h yet
 pub fold_none : (f n h x : ℕ) → 0 < f → bit_xor x (rem f (h % 2 ^ 0 * 2 ^ n)) ≡ x

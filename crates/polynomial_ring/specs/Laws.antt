@@ -1,10 +1,11 @@
 -- What the definitions are, in the words of the subject. Assumes nothing.
-use Rattle.std.specs.Prelude.{◌≡◌, ℕ, zero, suc, ◌+◌, ◌-◌, ◌*◌, ◌/◌, ◌%◌, ◌^◌, ◌≤◌, bit_xor}
+use Rattle.std.specs.Prelude.{◌≡◌, ℕ, zero, suc, ◌+◌, ◌-◌, ◌*◌, ◌%◌, ◌≤◌, bit_xor}
+use Rattle.bits.specs.Bits.{bit_at}
 use Rattle.polynomial_ring.specs.Polynomials.{times, rem, Reduced}
 
 -- the coefficient of t^i
 abbrev pub coef : ℕ → ℕ → ℕ
-coef a i = a / 2 ^ i % 2
+coef a i = bit_at a i
 
 -- g 0 + .. + g (n - 1)
 unfoldable pub sum_to : (ℕ → ℕ) → ℕ → ℕ

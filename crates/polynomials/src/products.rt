@@ -2,19 +2,14 @@
 ghost use Rattle.std.specs.Prelude.{◌≡◌, ℕ, ◌^◌, ◌<◌, slice_index};
 ghost use Rattle.polynomial_ring.specs.Polynomials.{times};
 
+use crate::rows::row;
+
 // The products of a and 0 to 15.
 fn multiples(a: u64) -> [u128; 16]
     requires { a < 2 ^ 63 }
     ensures { (m : ℕ) → m < 16 → slice_index result m ≡ times a m }
 {
-    let mut row = [0u128; 16];
-    row[1] = u128::from(a);
-    for h in 1..8usize {
-        let twice = row[h] * 2;
-        row[2 * h] = twice;
-        row[2 * h + 1] = twice ^ u128::from(a);
-    }
-    row
+    row(0, u128::from(a), |x| x << 1)
 }
 
 // The product of a and b, as polynomials.

@@ -12,72 +12,62 @@ ghost use Rattle.std.proofs.lemmas.Bool.{lt-ltb};
 ghost use Rattle.polynomial_ring.proofs.Remainders.{product_native, product_assoc};
 ghost use Rattle.polynomials.specs.declared.word.Word.{Word};
 
+use crate::modulus::Modulus;
 use crate::products::times;
-use crate::tables::{fold_rows, top};
 use crate::word::Word;
 use kinds::Kind;
 use refusals::Refusal;
 
 /// The kind of polynomials below the degree of a modulus f, whose product is reduced modulo f.
-/// It holds the modulus, its degree, and the table that products are reduced by.
+/// It holds the modulus with its degree, and the table that products are reduced by.
 #[derive(Clone, Copy)]
 pub struct Register {
-    modulus: u64,
-    degree: u32,
+    modulus: Modulus,
     rows: [[u64; 16]; 16],
-    ghost least: { 2 ≤ modulus },
-    ghost high: { degree ≡ top modulus },
-    ghost narrow: { degree < 64 },
-    ghost folds: { Folds modulus rows },
+    ghost folds: { Folds modulus.value rows },
 }
-
-const SMALLEST_MODULUS: u64 = 2;
 
 impl Register {
     /// The kind of this modulus, unless it is refused as out of bounds.
     pub fn new(modulus: u64) -> Result<Register, Refusal>
-        ensures answer { result_map_both (λ k. k.modulus) (λ e. e) result ≡ answer (modulus_fault modulus) modulus }
+        ensures answer { result_map_both (λ k. k.modulus.value) (λ e. e) result ≡ answer (modulus_fault modulus) modulus }
         ensures highest { Highest }
         ensures multiplies { Multiplies }
         ensures reduces { Reduces }
     {
-        if modulus < SMALLEST_MODULUS {
-            return Err(Refusal::BadModulus);
-        }
-        let degree = top(modulus);
-        let rows = fold_rows(modulus, 1u64 << degree);
+        let modulus = Modulus::new(modulus)?;
         Ok(Register {
             modulus,
-            degree,
-            rows,
+            rows: modulus.fold_rows(),
         })
     }
 
     /// The modulus.
     pub fn modulus(&self) -> u64
-        ensures value { result ≡ self.now.modulus }
+        ensures value { result ≡ self.now.modulus.value }
         ensures least { 2 ≤ result }
     {
-        self.modulus
+        self.modulus.value
     }
 
     // The remainder of p.
     fn remainder(&self, p: u128) -> u64
-        requires { p < 2 ^ (64 + top self.now.modulus) }
-        ensures { result ≡ rem self.now.modulus p }
+        requires { p < 2 ^ (64 + top self.now.modulus.value) }
+        ensures { result ≡ rem self.now.modulus.value p }
     {
-        let high = (p >> self.degree) as u64;
-        let mut r = (p & 0xffff_ffff_ffff_ffff) as u64 & ((1u64 << self.degree) - 1);
-        for k in 0..16usize {
-            r ^= self.rows[k][((high >> (4 * k)) % 16) as usize];
+        let mut high = (p >> self.modulus.degree) as u64;
+        let mut r = (p & u128::from(self.modulus.limit() - 1)) as u64;
+        for row in &self.rows {
+            r ^= row[(high % 16) as usize];
+            high /= 16;
         }
         r
     }
 
     // The product of two values below the degree.
     fn reduced_product(&self, a: u64, b: u64) -> u64
-        requires { (Reduced self.now.modulus a) × (Reduced self.now.modulus b) }
-        ensures { result ≡ product self.now.modulus a b }
+        requires { (Reduced self.now.modulus.value a) × (Reduced self.now.modulus.value b) }
+        ensures { result ≡ product self.now.modulus.value a b }
     {
         self.remainder(times(a, b))
     }
@@ -86,25 +76,25 @@ impl Register {
 impl Kind for Register {
     type Value = Word;
 
-    ghost kind = { λ k. polynomials k.modulus };
+    ghost kind = { λ k. polynomials k.modulus.value };
 
     ghost closed = { λ k a b native-a native-b.
-        lt-ltb (product k.modulus a.bits b.bits) (2 ^ top k.modulus)
-        (product_native k.modulus (omega (arith, k.least)) a.bits b.bits) };
+        let f = k.modulus.value in
+        lt-ltb (product f a.bits b.bits) (2 ^ top f) (product_native f (omega (arith, k.modulus.least)) a.bits b.bits) };
 
     ghost assoc = { λ k a b c native-a native-b native-c.
         let word : ℕ → Word = λ x. record { bits = x } in
-        ap word (product_assoc k.modulus (omega (arith, k.least)) a.bits b.bits c.bits) };
+        ap word (product_assoc k.modulus.value (omega (arith, k.modulus.least)) a.bits b.bits c.bits) };
 
     fn is_native(&self, v: Word) -> bool {
-        let limit = 1u64 << self.degree;
-        v.bits < limit
+        v.bits < self.modulus.limit()
     }
 
     fn product(&self, a: Word, b: Word) -> Option<Word> {
         if self.is_native(a) && self.is_native(b) {
-            let bits = self.reduced_product(a.bits, b.bits);
-            Some(Word { bits })
+            Some(Word {
+                bits: self.reduced_product(a.bits, b.bits),
+            })
         } else {
             None
         }

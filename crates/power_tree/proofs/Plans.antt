@@ -6,11 +6,12 @@ use Rattle.std.proofs.lemmas.Nat.{mod_below}
 use Rattle.std.proofs.lemmas.List.{length_push}
 use Rattle.std.proofs.lemmas.Bool.{eq-eqb, ne_eqb, cases_eq}
 use Rattle.plans.specs.Chain.{value_at, Chain}
-use Rattle.planning.specs.Bits.{top, bit_at}
+use Rattle.bits.specs.Bits.{top, bit_at}
 use Rattle.planning.specs.Planning.{step}
 use Rattle.power_tree.specs.Tree.{Level, first_of, next_level, first_level, path_in, or_else, path_from, tree_path, summand_in, steps_of, tree_plan}
 use Rattle.power_tree.specs.Rule.{level_at, Heads}
-use Rattle.planning.proofs.Powers.{top_is, halves, top_mono, top_one}
+use Rattle.bits.proofs.Tops.{top_is}
+use Rattle.planning.proofs.Powers.{halves, top_mono, top_one}
 use Rattle.planning.proofs.Pushing.{Grown, grown_none, push, chain_from_ends}
 use Rattle.power_tree.proofs.Bits.{In}
 use Rattle.power_tree.proofs.Levels.{Among, Each, Good, Reached, level_next, level_first, first_in, each_level, placed, next_further, double_further}
@@ -154,13 +155,13 @@ unfolding ones
 bound_small n a h =
     ⊎_elim
     (λ (e : n ≡ 1024).
-    let t : top n ≡ 10 = top_is 10 n (omega arith) (omega arith) (omega arith) in
+    let t : top n ≡ 10 = top_is 10 n (omega arith) (omega arith) in
     let o : ones n ≡ ones 1024 = ap ones e in
     let o2 : ones 1024 ≡ 1 = refl in
     omega arith)
     (λ (e : n ≡ 1024 → ⊥).
     let t : top n ≤ top 1023 = top_mono n 1023 a (omega arith) (omega arith) in
-    let t2 : top 1023 ≡ 9 = top_is 9 1023 (omega arith) (omega arith) (omega arith) in
+    let t2 : top 1023 ≡ 9 = top_is 9 1023 (omega arith) (omega arith) in
     let o : ones n ≤ 10 = ones-le 10 n (let l : n < 2 ^ 10 = omega arith in l) in
     omega arith)
     (cases_eq n 1024)
@@ -177,13 +178,6 @@ tree_path_lem n a h =
     let p = path_found 19 0 r.at n (omega arith) (omega (arith, bound_small n a h)) r.heads in
     let q : Path n r.at (path_from 19 n first_level) = subst (λ (x : Level). Path n r.at (path_from 19 n x)) level_first p in
     record { good = q.good; first = q.first; short = omega (arith, q.short) }
-
-pub path_some : (n : ℕ) → 1 ≤ n → n ≤ 1024 → 1 ≤ length (tree_path n)
-path_some n a h = some (tree_path n) (tree_path_lem n a h).good
-  where
-    some : (p : List ℕ) → Good p → 1 ≤ length p
-    some [] g = absurd g
-    some (x ∷ p) g = omega arith
 
 -- the plan of n is a chain, no longer than that of the left to right method
 pub record ShortChain (n : ℕ) : Type 0 where

@@ -1,6 +1,9 @@
 -- The steps of a path, from 1 on.
-use Rattle.std.proofs.Common.{◌≡◌, ℕ, ◌+◌, ◌-◌, ◌<◌, ◌≤◌, cond, eqb, List, [], ◌∷◌, ◌++◌, length, get_or, take, drop, sym, refl, ap, ◌∙◌, append_assoc, append-nil, add-zero, zero-add, arith, length-take-le}
-use Rattle.std.proofs.lemmas.List.{take_more, drop_more, drop_all}
+use Rattle.std.proofs.Common.{◌≡◌, ℕ, zero, suc, ◌+◌, ◌-◌, ◌<◌, ◌≤◌, true, false, cond, eqb, List, [], ◌∷◌, ◌++◌, length, get_or, drop, set, sym, refl, ap, ◌∙◌, append-nil, zero-add, add-zero, suc-add, add-suc, arith}
+use Rattle.std.specs.List.{AllWithin, HoldsAt}
+use Rattle.std.proofs.lemmas.Bool.{eq-eqb, ne_eqb}
+use Rattle.std.proofs.lemmas.List.{length_push}
+use Rattle.std.proofs.lemmas.List.Edits.{sets}
 use Rattle.plans.specs.declared.step.Step.{Step}
 use Rattle.planning.specs.Planning.{step}
 use Rattle.power_tree.specs.Tree.{turned, summand_in, steps_of}
@@ -21,58 +24,51 @@ turned_back (x ∷ xs) ys zs = turned_back xs (x ∷ ys) zs
 pub turned_twice : (xs : List ℕ) → turned (turned xs []) [] ≡ xs
 turned_twice xs = turned_back xs [] [] ∙ append-nil xs
 
-turned_take : (path : List ℕ) (i : ℕ) → i < length path → turned (take (i + 1) path) [] ≡ get_or path i 0 ∷ turned (take i path) []
-turned_take path i h = ap (λ (x : List ℕ). turned x []) (take_more path i 0 h) ∙ turned_push (take i path) (get_or path i 0) []
+-- the number that makes the sum, found from the first place on
+pub summand_found : (u x : ℕ) (path : List ℕ) (at : ℕ) → at < length path → HoldsAt (λ a. u + a ≡ x) path at → AllWithin (λ a. u + a ≡ x → ⊥) path 0 at
+    → summand_in u x path ≡ length path - 1 - at
+summand_found u x [] at h y n = absurd (let no : ⊥ = omega arith in no)
+summand_found u x (a ∷ rest) zero h y n =
+    let e : eqb (u + a) x ≡ true = eq-eqb _ _ (y 0) in
+    ap (λ b. cond b (length rest) (summand_in u x rest)) e ∙ omega arith
+summand_found u x (a ∷ rest) (suc at) h y n =
+    let e : eqb (u + a) x ≡ false = ne_eqb _ _ (n 0 0 (omega arith) (omega arith)) in
+    ap (λ b. cond b (length rest) (summand_in u x rest)) e
+    ∙ summand_found u x rest at (omega arith) y (λ k d l m. n (suc k) d (omega arith) (omega arith))
+    ∙ omega arith
 
-front_length : (path : List ℕ) (i : ℕ) → i ≤ length path → length (turned (take i path) []) ≡ i
-front_length path i h = turned_length (take i path) [] ∙ add-zero (length (take i path)) ∙ length-take-le i path h
+pub summand_absent : (u x : ℕ) (path : List ℕ) → AllWithin (λ a. u + a ≡ x → ⊥) path 0 (length path) → summand_in u x path ≡ 0
+summand_absent u x [] n = refl
+summand_absent u x (a ∷ rest) n =
+    let e : eqb (u + a) x ≡ false = ne_eqb _ _ (n 0 0 (omega arith) (omega arith)) in
+    ap (λ b. cond b (length rest) (summand_in u x rest)) e ∙ summand_absent u x rest (λ k d l m. n (suc k) d (omega arith) (omega arith))
 
--- the number that makes the sum, looked for from the last place down
-pub summand_back : (u x : ℕ) (path : List ℕ) (at : ℕ) → at < length path
-    → summand_in u x (turned (take (at + 1) path) []) ≡ cond (eqb (u + get_or path at 0) x) at (summand_in u x (turned (take at path) []))
-summand_back u x path at h =
-    ap (summand_in u x) (turned_take path at h)
-    ∙ ap (λ (n : ℕ). cond (eqb (u + get_or path at 0) x) n (summand_in u x (turned (take at path) []))) (front_length path at (omega arith))
+-- a path has fewer steps than numbers
+pub steps_fewer : (path : List ℕ) → 1 ≤ length path → length (steps_of path) < length path
+steps_fewer [] h = absurd (let no : ⊥ = omega arith in no)
+steps_fewer (x ∷ []) h = omega arith
+steps_fewer (x ∷ u ∷ rest) h = omega (arith, steps_fewer (u ∷ rest) (omega arith), length_push (steps_of (u ∷ rest)) (step (length rest) (summand_in u x (u ∷ rest)) x))
 
--- the steps to the numbers yet to come, where those so far stand on a path down to 1
-abbrev pub steps_on : List ℕ → List ℕ → List Step
-steps_on [] next = []
-steps_on (u ∷ rest) [] = []
-steps_on (u ∷ rest) (x ∷ next) = step (length rest) (summand_in u x (u ∷ rest)) x ∷ steps_on (x ∷ u ∷ rest) next
+-- one step more written behind others
+pub sets_push : (t : List Step) (i : ℕ) (plan : List Step) (x : Step) → sets t i (plan ++ x ∷ []) ≡ set (sets t i plan) (i + length plan) x
+sets_push t i [] x = ap (λ (k : ℕ). set t k x) (sym (add-zero i))
+sets_push t i (y ∷ plan) x = sets_push (set t i y) (suc i) plan x ∙ ap (λ (k : ℕ). set (sets (set t i y) (suc i) plan) k x) (suc-add i (length plan) ∙ sym (add-suc i (length plan)))
 
-steps_on_lem : (u : ℕ) (rest next : List ℕ) → steps_of (turned next (u ∷ rest)) ≡ steps_of (u ∷ rest) ++ steps_on (u ∷ rest) next
-steps_on_lem u rest [] = sym (append-nil (steps_of (u ∷ rest)))
-steps_on_lem u rest (x ∷ next) =
-    steps_on_lem x (u ∷ rest) next
-    ∙ append_assoc (steps_of (u ∷ rest)) (step (length rest) (summand_in u x (u ∷ rest)) x ∷ []) (steps_on (x ∷ u ∷ rest) next)
+-- the steps of a path, by those of the path below its first number
+pub steps_more : (path below : List ℕ) → below ≡ drop 1 path → 1 ≤ length path → 1 ≤ length below
+    → steps_of path ≡ steps_of below ++ step (length below - 1) (summand_in (get_or below 0 0) (get_or path 0 0) below) (get_or path 0 0) ∷ []
+steps_more [] below e h k = absurd (let no : ⊥ = omega arith in no)
+steps_more (x ∷ rest) [] e h k = absurd (let no : ⊥ = omega arith in no)
+steps_more (x ∷ rest) (u ∷ below) e h k =
+    let n : length (u ∷ below) - 1 ≡ length below = omega arith in
+    ap (λ (d : List ℕ). steps_of (x ∷ d)) (sym e) ∙ ap (λ (m : ℕ). steps_of (u ∷ below) ++ step m (summand_in u x (u ∷ below)) x ∷ []) (sym n)
 
--- the steps of a path that starts from 1, but for those to its first i numbers
-abbrev pub steps_left : List ℕ → ℕ → List Step
-steps_left path i = steps_on (turned (take i path) []) (drop i path)
+pub steps_one_more : (path below : List ℕ) → below ≡ drop 1 path → 1 ≤ length path → 1 ≤ length below → length (steps_of path) ≡ length (steps_of below) + 1
+steps_one_more path below e h k = ap length (steps_more path below e h k) ∙ length_push (steps_of below) _
 
-pub left_first : (path : List ℕ) → 1 ≤ length path → steps_of (turned path []) ≡ steps_left path 1
-left_first [] h = absurd (let no : ⊥ = omega arith in no)
-left_first (u ∷ next) h = steps_on_lem u [] next
-
-pub left_more : (path : List ℕ) (i : ℕ) → 1 ≤ i → i < length path
-    → steps_left path i ≡ step (i - 1) (summand_in (get_or path (i - 1) 0) (get_or path i 0) (turned (take i path) [])) (get_or path i 0) ∷ steps_left path (i + 1)
-left_more path i a h =
-    let u : ℕ = get_or path (i - 1) 0 in
-    let x : ℕ = get_or path i 0 in
-    let rest : List ℕ = turned (take (i - 1) path) [] in
-    let e : i - 1 + 1 ≡ i = omega arith in
-    let so : turned (take i path) [] ≡ u ∷ rest = ap (λ (n : ℕ). turned (take n path) []) (sym e) ∙ turned_take path (i - 1) (omega arith) in
-    let next : turned (take (i + 1) path) [] ≡ x ∷ turned (take i path) [] = turned_take path i h in
-    let n : length rest ≡ i - 1 = front_length path (i - 1) (omega arith) in
-    ap (λ (d : List ℕ). steps_on d (drop i path)) so
-    ∙ ap (steps_on (u ∷ rest)) (drop_more path i 0 h)
-    ∙ ap (λ (m : ℕ). step m (summand_in u x (u ∷ rest)) x ∷ steps_on (x ∷ u ∷ rest) (drop (i + 1) path)) n
-    ∙ ap (λ (d : List ℕ). step (i - 1) (summand_in u x d) x ∷ steps_on (x ∷ d) (drop (i + 1) path)) (sym so)
-    ∙ ap (λ (d : List ℕ). step (i - 1) (summand_in u x (turned (take i path) [])) x ∷ steps_on d (drop (i + 1) path)) (sym next)
-
-pub left_none : (path : List ℕ) (i : ℕ) → length path ≤ i → steps_left path i ≡ []
-left_none path i h = ap (steps_on (turned (take i path) [])) (drop_all i path h) ∙ none (turned (take i path) [])
-  where
-    none : (d : List ℕ) → steps_on d [] ≡ []
-    none [] = refl
-    none (u ∷ rest) = refl
+-- a plan that is written from the front of a table, with its last step
+pub sets_more : (t mid plan front : List Step) (len j k v m n w : ℕ) → plan ≡ front ++ step j k v ∷ [] → mid ≡ sets t 0 front → len ≡ length front → m ≡ j → n ≡ k → w ≡ v
+    → set mid len (step m n w) ≡ sets t 0 plan
+sets_more t mid plan front len j k v m n w p s l ej ek ev =
+    let z : len ≡ 0 + length front = omega arith in
+    rw (s, z, ej, ek, ev, p, sets_push t 0 front (step j k v)) refl

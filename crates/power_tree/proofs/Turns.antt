@@ -1,9 +1,11 @@
 -- One step of what the definitions of a growth do.
-use Rattle.std.proofs.Common.{◌≡◌, ℕ, zero, suc, ◌+◌, ◌-◌, ◌<◌, ◌≤◌, Bool, true, false, cond, eqb, leb, ◌⊎◌, List, [], ◌∷◌, ◌++◌, length, get_or, drop, set, replicate, sym, refl, ap, ◌∙◌, inl, inr, sub-one, arith, length-append}
-use Rattle.std.proofs.lemmas.List.{drop_more, drop_all, length_push}
+use Rattle.std.proofs.Common.{◌≡◌, ℕ, zero, suc, ◌+◌, ◌-◌, ◌<◌, ◌≤◌, Bool, true, false, cond, eqb, leb, ◌⊎◌, List, [], ◌∷◌, ◌++◌, length, get_or, set, replicate, sym, refl, ap, ◌∙◌, inl, inr, sub-one, arith, length-append}
+use Rattle.std.proofs.lemmas.List.{length_push}
 use Rattle.std.proofs.lemmas.Bool.{le-leb, eq-eqb}
+use Rattle.power_tree.specs.Tree.{turned}
 use Rattle.power_tree.specs.Growth.{Growth, growth, path_onto, is_open, hang, hang_all, turn, turns, Stage, stage, next_stage, stage_at, grown_parents}
 use Rattle.power_tree.proofs.Growing.{stage_next, stage_room}
+use Rattle.power_tree.proofs.Steps.{turned_push}
 
 -- a child that can come
 pub hang_open : (u : ℕ) (g : Growth) (a : ℕ) → u + a ≤ 1024 → get_or g.parents (u + a) 0 ≡ 0 → hang u g a ≡ growth (set g.parents (u + a) u) (g.order ++ (u + a) ∷ [])
@@ -11,11 +13,6 @@ hang_open u g a h z =
     let e : leb (u + a) 1024 ≡ true = le-leb _ _ h in
     let f : eqb (get_or g.parents (u + a) 0) 0 ≡ true = eq-eqb _ _ z in
     rw (e, f) refl
-
-pub hang_room : (u : ℕ) (g : Growth) (a n : ℕ) → u + a ≤ 1024 → get_or g.parents (u + a) 0 ≡ 0 → length (hang u g a).order ≤ n → length g.order < n
-hang_room u g a n h z k =
-    let f : length (hang u g a).order ≡ length (g.order ++ (u + a) ∷ []) = ap (λ (x : Growth). length x.order) (hang_open u g a h z) in
-    omega (arith, length_push g.order (u + a))
 
 -- climbing
 pub onto_step : (most v : ℕ) (ps onto : List ℕ) → 0 < most → 0 < v → path_onto most ps v onto ≡ path_onto (most - 1) ps (get_or ps v 0) (v ∷ onto)
@@ -49,20 +46,21 @@ turns_longer (suc n) k g =
     let i = turns_longer n (k + 1) (turn k g) in
     omega arith
 
--- one child more
-all_step : (u : ℕ) (g : Growth) (path : List ℕ) (i : ℕ) → i < length path → hang_all u g (drop i path) ≡ hang_all u (hang u g (get_or path i 0)) (drop (i + 1) path)
-all_step u g path i h = ap (λ (rest : List ℕ). hang_all u g rest) (drop_more path i 0 h)
+-- one child more, where the numbers that are left are those of a path down, from its end on
+all_step : (u : ℕ) (g : Growth) (left rest : List ℕ) (a : ℕ) → left ≡ rest ++ a ∷ [] → hang_all u g (turned left []) ≡ hang_all u (hang u g a) (turned rest [])
+all_step u g left rest a e = ap (hang_all u g) (ap (λ (x : List ℕ). turned x []) e ∙ turned_push rest a [])
 
-pub all_more : (u : ℕ) (g next whole : Growth) (path : List ℕ) (i : ℕ) → i < length path → next ≡ hang u g (get_or path i 0) → hang_all u g (drop i path) ≡ whole → hang_all u next (drop (i + 1) path) ≡ whole
-all_more u g next whole path i h e w = ap (λ (x : Growth). hang_all u x (drop (i + 1) path)) e ∙ sym (all_step u g path i h) ∙ w
+pub all_more : (u : ℕ) (g next whole : Growth) (left rest : List ℕ) (a : ℕ) → left ≡ rest ++ a ∷ [] → next ≡ hang u g a → hang_all u g (turned left []) ≡ whole → hang_all u next (turned rest []) ≡ whole
+all_more u g next whole left rest a e f w = ap (λ (x : Growth). hang_all u x (turned rest [])) f ∙ sym (all_step u g left rest a e) ∙ w
 
-pub all_none : (u : ℕ) (g whole : Growth) (path : List ℕ) (i : ℕ) → length path ≤ i → hang_all u g (drop i path) ≡ whole → g ≡ whole
-all_none u g whole path i h w = ap (hang_all u g) (sym (drop_all i path h)) ∙ w
+pub all_none : (u : ℕ) (g whole : Growth) (left : List ℕ) → length left ≡ 0 → hang_all u g (turned left []) ≡ whole → g ≡ whole
+all_none u g whole [] e w = w
+all_none u g whole (x ∷ left) e w = absurd (let no : ⊥ = omega arith in no)
 
-pub all_room : (u : ℕ) (g whole : Growth) (path : List ℕ) (i n : ℕ) → i < length path → hang_all u g (drop i path) ≡ whole → length whole.order ≤ n → length (hang u g (get_or path i 0)).order ≤ n
-all_room u g whole path i n h e k =
-    let l = all_longer u (hang u g (get_or path i 0)) (drop (i + 1) path) in
-    let m : length (hang_all u (hang u g (get_or path i 0)) (drop (i + 1) path)).order ≡ length whole.order = ap (λ (s : Growth). length s.order) (sym (all_step u g path i h) ∙ e) in
+pub all_room : (u : ℕ) (g whole : Growth) (left rest : List ℕ) (a n : ℕ) → left ≡ rest ++ a ∷ [] → hang_all u g (turned left []) ≡ whole → length whole.order ≤ n → length (hang u g a).order ≤ n
+all_room u g whole left rest a n e w k =
+    let l = all_longer u (hang u g a) (turned rest []) in
+    let m : length (hang_all u (hang u g a) (turned rest [])).order ≡ length whole.order = ap (λ (s : Growth). length s.order) (sym (all_step u g left rest a e) ∙ w) in
     omega arith
 
 -- one turn more

@@ -1,5 +1,5 @@
 //! A limit on the multiplications that reach a unit.
-ghost use Rattle.std.specs.Prelude.{◌≡◌, ◌+◌, ◌^◌, ◌<◌, ◌≤◌, true, is_err};
+ghost use Rattle.std.specs.Prelude.{◌≡◌, ◌+◌, ◌^◌, ◌<◌, ◌≤◌};
 ghost use Rattle.refusals.specs.Faults.{settle, Unchanged};
 ghost use Rattle.units.specs.Units.{SameShape, load_answer, load_after, reading, multiply_fault, multiplied, multiply_answer, multiply_after};
 ghost use Rattle.quota.specs.Quotas.{under_quota};
@@ -37,11 +37,7 @@ impl<U: Unit> Quota<U> {
     pub fn take_off(self) -> U
         ensures below { result ≡ self.below }
     {
-        let Quota {
-            below,
-            limit: _,
-            used: _,
-        } = self;
+        let Quota { below, .. } = self;
         below
     }
 }
@@ -49,11 +45,11 @@ impl<U: Unit> Quota<U> {
 impl<U: Unit> Kind for Quota<U> {
     type Value = U::Value;
 
-    ghost kind = { λ q. U.Kind.kind q.below };
+    ghost kind = { λ q. U.kind q.below };
 
-    ghost closed = { λ q. U.Kind.closed q.below };
+    ghost closed = { λ q. U.closed q.below };
 
-    ghost assoc = { λ q. U.Kind.assoc q.below };
+    ghost assoc = { λ q. U.assoc q.below };
 
     fn is_native(&self, v: U::Value) -> bool {
         self.below.is_native(v)
@@ -65,11 +61,11 @@ impl<U: Unit> Kind for Quota<U> {
 }
 
 impl<U: Unit> Unit for Quota<U> {
-    ghost state = { λ q. under_quota q.limit q.used (U.Unit.state q.below) };
+    ghost state = { λ q. under_quota q.limit q.used (U.state q.below) };
 
-    ghost few = { λ q. U.Unit.few q.below };
+    ghost few = { λ q. U.few q.below };
 
-    ghost native = { λ q. U.Unit.native q.below };
+    ghost native = { λ q. U.native q.below };
 
     fn cells(&self) -> u8 {
         self.below.cells()
@@ -80,11 +76,11 @@ impl<U: Unit> Unit for Quota<U> {
     }
 
     fn load(&mut self, cell: u8, v: U::Value) -> Result<(), Refusal>
-        ensures value { let q = self.old in result ≡ load_answer (U.Kind.kind q.below) (under_quota q.limit q.used (U.Unit.state q.below)) cell v }
-        ensures after { let q = self.old in let t = self.new in under_quota t.limit t.used (U.Unit.state t.below) ≡ load_after (U.Kind.kind q.below) (under_quota q.limit q.used (U.Unit.state q.below)) cell v }
-        ensures same { U.Kind.kind self.new.below ≡ U.Kind.kind self.old.below }
-        ensures shape { SameShape (U.Unit.state self.old.below) (U.Unit.state self.new.below) }
-        ensures below { let u = self.old.below in U.Unit.state self.new.below ≡ load_after (U.Kind.kind u) (U.Unit.state u) cell v }
+        ensures value { result ≡ load_answer (U.kind self.old.below) (⟦<Self as Unit>⟧.state self.old) cell v }
+        ensures after { ⟦<Self as Unit>⟧.state self.new ≡ load_after (U.kind self.old.below) (⟦<Self as Unit>⟧.state self.old) cell v }
+        ensures same { U.kind self.new.below ≡ U.kind self.old.below }
+        ensures shape { SameShape (⟦<Self as Unit>⟧.state self.old) (⟦<Self as Unit>⟧.state self.new) }
+        ensures below { let u = self.old.below in U.state self.new.below ≡ load_after (U.kind u) (U.state u) cell v }
         ensures used { self.new.used ≡ self.old.used }
         ensures limit { self.new.limit ≡ self.old.limit }
         ensures refused { Unchanged result self.old self.new }
@@ -93,21 +89,20 @@ impl<U: Unit> Unit for Quota<U> {
     }
 
     fn read(&self, cell: u8) -> Result<U::Value, Refusal>
-        ensures value { let q = self.now in result ≡ reading (under_quota q.limit q.used (U.Unit.state q.below)) cell }
-        ensures below { result ≡ reading (U.Unit.state self.now.below) cell }
+        ensures value { result ≡ reading (⟦<Self as Unit>⟧.state self.now) cell }
+        ensures below { result ≡ reading (U.state self.now.below) cell }
     {
         self.below.read(cell)
     }
 
     fn multiply(&mut self, to: u8, a: u8, b: u8) -> Result<(), Refusal>
-        ensures value { let q = self.old in result ≡ multiply_answer (under_quota q.limit q.used (U.Unit.state q.below)) to a b }
-        ensures after { let q = self.old in let t = self.new in under_quota t.limit t.used (U.Unit.state t.below) ≡ multiply_after (U.Kind.kind q.below) (under_quota q.limit q.used (U.Unit.state q.below)) to a b }
-        ensures same { U.Kind.kind self.new.below ≡ U.Kind.kind self.old.below }
-        ensures shape { SameShape (U.Unit.state self.old.below) (U.Unit.state self.new.below) }
-        ensures below { let q = self.old in let s = U.Unit.state q.below in U.Unit.state self.new.below ≡ settle (multiply_fault (under_quota q.limit q.used s) to a b) s (multiplied (U.Kind.kind q.below) s to a b) }
-        ensures used { let q = self.old in self.new.used ≡ settle (multiply_fault (under_quota q.limit q.used (U.Unit.state q.below)) to a b) q.used (q.used + 1) }
+        ensures value { result ≡ multiply_answer (⟦<Self as Unit>⟧.state self.old) to a b }
+        ensures after { ⟦<Self as Unit>⟧.state self.new ≡ multiply_after (U.kind self.old.below) (⟦<Self as Unit>⟧.state self.old) to a b }
+        ensures same { U.kind self.new.below ≡ U.kind self.old.below }
+        ensures shape { SameShape (⟦<Self as Unit>⟧.state self.old) (⟦<Self as Unit>⟧.state self.new) }
+        ensures below { let q = self.old in let s = U.state q.below in U.state self.new.below ≡ settle (multiply_fault (⟦<Self as Unit>⟧.state q) to a b) s (multiplied (U.kind q.below) s to a b) }
+        ensures used { self.new.used ≡ settle (multiply_fault (⟦<Self as Unit>⟧.state self.old) to a b) self.old.used (self.old.used + 1) }
         ensures limit { self.new.limit ≡ self.old.limit }
-        ensures kept { is_err result ≡ true → self.new ≡ self.old }
         ensures refused { Unchanged result self.old self.new }
     {
         self.check_multiply(to, a, b)?;

@@ -36,24 +36,24 @@ impl Refusal {
         ensures { result ≡ (code self).place }
     {
         match self {
-            Refusal::Exponent => 0,
-            Refusal::Method => 0,
             Refusal::TooLong => 129,
-            Refusal::SheetLine(line) => line,
-            Refusal::Field(line) => line,
-            Refusal::StepNumber(line) => line,
-            Refusal::Citation(step) => step,
-            Refusal::NotSum(step) => step,
-            Refusal::NotRising(step) => step,
-            Refusal::NotReached(length) => length,
-            Refusal::NotNative => 0,
-            Refusal::BadModulus => 0,
-            Refusal::NoSuchCell(cell) => cell,
-            Refusal::TableShort(wanted) => wanted,
-            Refusal::CellEmpty(cell) => cell,
-            Refusal::AllowanceSpent => 0,
-            Refusal::NeedAbove(need) => need,
-            Refusal::AllowanceBelow(length) => length,
+            Refusal::Exponent
+            | Refusal::Method
+            | Refusal::NotNative
+            | Refusal::BadModulus
+            | Refusal::AllowanceSpent => 0,
+            Refusal::SheetLine(place)
+            | Refusal::Field(place)
+            | Refusal::StepNumber(place)
+            | Refusal::Citation(place)
+            | Refusal::NotSum(place)
+            | Refusal::NotRising(place)
+            | Refusal::NotReached(place)
+            | Refusal::NoSuchCell(place)
+            | Refusal::TableShort(place)
+            | Refusal::CellEmpty(place)
+            | Refusal::NeedAbove(place)
+            | Refusal::AllowanceBelow(place) => place,
         }
     }
 

@@ -1,34 +1,34 @@
 //! A record of each multiplication that reaches a unit.
-ghost use Rattle.std.specs.Prelude.{◌≡◌, ◌≤◌, true, length, take, is_err};
+ghost use Rattle.std.specs.Prelude.{◌≡◌, ◌≤◌, [], length};
 ghost use Rattle.refusals.specs.Faults.{settle, Unchanged};
 ghost use Rattle.units.specs.Units.{SameShape, load_answer, load_after, reading, multiply_fault, multiplied, multiply_answer, multiply_after};
 ghost use Rattle.run_sheet.specs.Sheets.{sheeted, numbered};
 ghost use Rattle.std.proofs.Common.{rules, arith};
 
+use arrayvec::ArrayVec;
 use kinds::Kind;
 use refusals::Refusal;
 use units::{Record, Unit};
+
+/// The most records that a run sheet stores.
+const MOST_RECORDS: usize = 1024;
 
 /// A unit that stores a record of each multiplication that it lets through to the one below, 1,024 at most.
 #[derive(Drop)]
 pub struct RunSheet<U: Unit> {
     below: U,
-    records: [Record; 1024],
-    len: usize,
-    ghost within: { len ≤ 1024 },
-    ghost full: { length records ≡ 1024 },
+    records: ArrayVec<Record, MOST_RECORDS>,
 }
 
 impl<U: Unit> RunSheet<U> {
     /// Puts an empty run sheet on a unit.
     pub fn new(below: U) -> Self
         ensures below { result.below ≡ below }
-        ensures len { result.len ≡ 0 }
+        ensures records { result.records.items ≡ [] }
     {
         RunSheet {
             below,
-            records: [Record { to: 0, a: 0, b: 0 }; 1024],
-            len: 0,
+            records: ArrayVec::new(),
         }
     }
 
@@ -36,42 +36,43 @@ impl<U: Unit> RunSheet<U> {
     pub fn take_off(self) -> U
         ensures below { result ≡ self.below }
     {
-        let RunSheet {
-            below,
-            records: _,
-            len: _,
-        } = self;
+        let RunSheet { below, .. } = self;
         below
+    }
+
+    /// The records, the oldest first.
+    pub fn records(&self) -> &[Record]
+        ensures value { result.now ≡ self.now.records.items }
+        ensures few { length result.now ≤ 1024 }
+    {
+        self.records.as_slice()
     }
 
     /// How many records are stored.
     pub fn len(&self) -> usize
-        ensures value { result ≡ length (take self.now.len self.now.records) }
+        ensures value { result ≡ length self.now.records.items }
         ensures few { result ≤ 1024 }
     {
-        let count = self.len;
-        count
+        self.records.len()
     }
 
     /// The record of a number, counted from 1, if there is one.
     pub fn record(&self, number: usize) -> Option<Record>
-        ensures value { result ≡ numbered (take self.now.len self.now.records) number }
+        ensures value { result ≡ numbered self.now.records.items number }
     {
-        if number == 0 || number > self.len {
-            return None;
-        }
-        Some(self.records[number - 1])
+        let index = number.checked_sub(1)?;
+        self.records.get(index).copied()
     }
 }
 
 impl<U: Unit> Kind for RunSheet<U> {
     type Value = U::Value;
 
-    ghost kind = { λ q. U.Kind.kind q.below };
+    ghost kind = { λ q. U.kind q.below };
 
-    ghost closed = { λ q. U.Kind.closed q.below };
+    ghost closed = { λ q. U.closed q.below };
 
-    ghost assoc = { λ q. U.Kind.assoc q.below };
+    ghost assoc = { λ q. U.assoc q.below };
 
     fn is_native(&self, v: U::Value) -> bool {
         self.below.is_native(v)
@@ -83,51 +84,50 @@ impl<U: Unit> Kind for RunSheet<U> {
 }
 
 impl<U: Unit> Unit for RunSheet<U> {
-    ghost state = { λ q. sheeted q.records q.len (U.Unit.state q.below) };
+    ghost state = { λ q. sheeted q.records.items (U.state q.below) };
 
-    ghost few = { λ q. U.Unit.few q.below };
+    ghost few = { λ q. U.few q.below };
 
-    ghost native = { λ q. U.Unit.native q.below };
+    ghost native = { λ q. U.native q.below };
 
     fn cells(&self) -> u8 {
         self.below.cells()
     }
 
     fn allowance(&self) -> u64 {
-        self.below.allowance().min((1024 - self.len) as u64)
+        let room = self.records.remaining_capacity() as u64;
+        self.below.allowance().min(room)
     }
 
     fn load(&mut self, cell: u8, v: U::Value) -> Result<(), Refusal>
-        ensures value { let q = self.old in result ≡ load_answer (U.Kind.kind q.below) (sheeted q.records q.len (U.Unit.state q.below)) cell v }
-        ensures after { let q = self.old in let t = self.new in sheeted t.records t.len (U.Unit.state t.below) ≡ load_after (U.Kind.kind q.below) (sheeted q.records q.len (U.Unit.state q.below)) cell v }
-        ensures same { U.Kind.kind self.new.below ≡ U.Kind.kind self.old.below }
-        ensures shape { let q = self.old in let t = self.new in SameShape (sheeted q.records q.len (U.Unit.state q.below)) (sheeted t.records t.len (U.Unit.state t.below)) }
-        ensures below { let u = self.old.below in U.Unit.state self.new.below ≡ load_after (U.Kind.kind u) (U.Unit.state u) cell v }
+        ensures value { result ≡ load_answer (U.kind self.old.below) (⟦<Self as Unit>⟧.state self.old) cell v }
+        ensures after { ⟦<Self as Unit>⟧.state self.new ≡ load_after (U.kind self.old.below) (⟦<Self as Unit>⟧.state self.old) cell v }
+        ensures same { U.kind self.new.below ≡ U.kind self.old.below }
+        ensures shape { SameShape (⟦<Self as Unit>⟧.state self.old) (⟦<Self as Unit>⟧.state self.new) }
+        ensures below { let u = self.old.below in U.state self.new.below ≡ load_after (U.kind u) (U.state u) cell v }
         ensures refused { Unchanged result self.old self.new }
     {
         self.below.load(cell, v)
     }
 
     fn read(&self, cell: u8) -> Result<U::Value, Refusal>
-        ensures value { let q = self.now in result ≡ reading (sheeted q.records q.len (U.Unit.state q.below)) cell }
-        ensures below { result ≡ reading (U.Unit.state self.now.below) cell }
+        ensures value { result ≡ reading (⟦<Self as Unit>⟧.state self.now) cell }
+        ensures below { result ≡ reading (U.state self.now.below) cell }
     {
         self.below.read(cell)
     }
 
     fn multiply(&mut self, to: u8, a: u8, b: u8) -> Result<(), Refusal>
-        ensures value { let q = self.old in result ≡ multiply_answer (sheeted q.records q.len (U.Unit.state q.below)) to a b }
-        ensures after { let q = self.old in let t = self.new in sheeted t.records t.len (U.Unit.state t.below) ≡ multiply_after (U.Kind.kind q.below) (sheeted q.records q.len (U.Unit.state q.below)) to a b }
-        ensures same { U.Kind.kind self.new.below ≡ U.Kind.kind self.old.below }
-        ensures shape { let q = self.old in let t = self.new in SameShape (sheeted q.records q.len (U.Unit.state q.below)) (sheeted t.records t.len (U.Unit.state t.below)) }
-        ensures below { let q = self.old in let s = U.Unit.state q.below in U.Unit.state self.new.below ≡ settle (multiply_fault (sheeted q.records q.len s) to a b) s (multiplied (U.Kind.kind q.below) s to a b) }
-        ensures kept { is_err result ≡ true → self.new ≡ self.old }
+        ensures value { result ≡ multiply_answer (⟦<Self as Unit>⟧.state self.old) to a b }
+        ensures after { ⟦<Self as Unit>⟧.state self.new ≡ multiply_after (U.kind self.old.below) (⟦<Self as Unit>⟧.state self.old) to a b }
+        ensures same { U.kind self.new.below ≡ U.kind self.old.below }
+        ensures shape { SameShape (⟦<Self as Unit>⟧.state self.old) (⟦<Self as Unit>⟧.state self.new) }
+        ensures below { let q = self.old in let s = U.state q.below in U.state self.new.below ≡ settle (multiply_fault (⟦<Self as Unit>⟧.state q) to a b) s (multiplied (U.kind q.below) s to a b) }
         ensures refused { Unchanged result self.old self.new }
     {
         self.check_multiply(to, a, b)?;
         self.below.multiply(to, a, b)?;
-        self.records[self.len] = Record { to, a, b };
-        self.len += 1;
+        self.records.push(Record { to, a, b });
         Ok(())
     }
 }

@@ -1,6 +1,6 @@
 -- A line, from its fields and back.
-use Rattle.std.proofs.Common.{◌≡◌, ℕ, ◌+◌, ◌-◌, ◌^◌, ◌<◌, cond, List, [], ◌∷◌, ◌++◌, length, get_or, take, drop, set, Some, None, Ok, Err, Option, Result, sym, refl, ap, ◌∙◌, subst, arith, lit<, eq-eqb}
-use Rattle.refusals.specs.declared.refusal.Refusal.TheVariants.{SheetLine, StepNumber}
+use Rattle.std.proofs.Common.{◌≡◌, ℕ, ◌+◌, ◌-◌, ◌^◌, ◌<◌, cond, List, [], ◌∷◌, ◌++◌, length, get_or, take, drop, set, IfOk, Some, None, Ok, Err, Option, Result, sym, refl, ap, ◌∙◌, subst, arith, lit<, eq-eqb}
+use Rattle.refusals.specs.declared.refusal.Refusal.TheVariants.{SheetLine, Field, StepNumber}
 use Rattle.fields.specs.Field.{field, field_value, put}
 use Rattle.fields.proofs.Inverse.{length_field, digits_within, write_field, put_field}
 use Rattle.plans.specs.declared.step.Step.{Step}
@@ -9,8 +9,11 @@ use Rattle.sheets.specs.declared.column.Column.{Column}
 use Rattle.sheets.specs.declared.column.Column.TheVariants.{Number, First, Second, Value}
 use Rattle.sheets.specs.Columns.{start, width, cell, put_cell}
 use Rattle.sheets.specs.Lines.{line, line_bytes, newline, Writable}
-use Rattle.sheets.specs.Reading.{fault, number_in, and_then, numbers, numbered, read_line}
+use Rattle.refusals.specs.Faults.{and_then}
+use Rattle.sheets.specs.Reading.{fault, number_in, numbers, numbered, read_line}
 use borrow.Rule.Slice.PartMut.{put_mid}
+use Rattle.std.specs.Option.{ok_or}
+use Rattle.std.specs.declared.ops.Range.{Range}
 use Rattle.std.proofs.lemmas.Bool.{ne_eqb}
 use Rattle.std.proofs.lemmas.List.{append_assoc, take_at, drop_at, drop-drop, set_at, length-append, length-drop, length-take-le}
 
@@ -22,10 +25,9 @@ pub record Holds (b : List ℕ) (n j k v : ℕ) : Type 0 where
   pub second : field_value (cell Second b) ≡ Some k
   pub value : field_value (cell Value b) ≡ Some v
 
--- the part of a line from where a column begins
-pub cell_is : (c : Column) (b : List ℕ) (first size : ℕ) → first ≡ start c → size ≡ width c → take (first + size - first) (drop first b) ≡ cell c b
-cell_is c b first size e f =
-    ap (λ k. take k (drop first b)) {x = first + size - first} {y = width c} (omega arith) ∙ ap (λ k. take (width c) (drop k b)) e
+-- the bytes of a column's span
+pub span_cell : (c : Column) (b : List ℕ) (r : Range ℕ) → r ≡ record { start = start c; end = start c + width c } → take (r.end - r.start) (drop r.start b) ≡ cell c b
+span_cell c b r e = rw e (ap (λ k. take k (drop (start c) b)) {x = start c + width c - start c} {y = width c} (omega arith))
 
 -- a column lies before the newline
 pub column_end : (c : Column) → start c + width c < line_bytes
@@ -45,6 +47,15 @@ cell_bound c b v l e = subst (λ (k : ℕ). v < 10 ^ k) (length_cell c b l) (wri
 pub number_held : (i : ℕ) (f : Column) (o : Option ℕ) (v : ℕ) → Ok v ≡ number_in i f o → o ≡ Some v
 number_held i f None v e = cc
 number_held i f (Some x) v e = cc
+
+-- the number that a field holds, or its fault
+pub number_by : (i : ℕ) (c : Column) (o : Option ℕ) → ok_or o (fault (Field i) (Some c)) ≡ number_in i c o
+number_by i c None = refl
+number_by i c (Some v) = refl
+
+pub number_bound : (i : ℕ) (c : Column) (b : List ℕ) (r : Result ℕ Fault) → length b ≡ line_bytes → r ≡ number_in i c (field_value (cell c b)) → IfOk r (λ v. v < 10 ^ width c)
+number_bound i c b (Ok v) l e = cell_bound c b v l (number_held i c (field_value (cell c b)) v e)
+number_bound i c b (Err f) l e = tt
 
 numbers_held : (i : ℕ) (b : List ℕ) (n j k v : ℕ) (go : ℕ → ℕ → ℕ → ℕ → Result Step Fault) → Holds b n j k v → numbers i b go ≡ go n j k v
 numbers_held i b n j k v go h =
@@ -76,13 +87,6 @@ set_last : (p q : List ℕ) (n x : ℕ) → length p ≡ n → length q ≡ 1 �
 set_last p [] n x e h = let f : ⊥ = omega (arith, h) in elim f [ ]
 set_last p (y ∷ []) n x e h = set_at p y [] x n e
 set_last p (y ∷ (z ∷ zs)) n x e h = let f : ⊥ = omega (arith, h) in elim f [ ]
-
--- a number goes into the bytes from where its column begins
-pub put_cell_lem : (c : Column) (b f : List ℕ) (v first size : ℕ) → first ≡ start c → size ≡ width c → f ≡ put v (take (first + size - first) (drop first b)) → put_mid first (first + size - first) b f ≡ put_cell c v b
-put_cell_lem c b f v first size e w ef =
-    ap (put_mid first (first + size - first) b) (ef ∙ ap (put v) (cell_is c b first size e w))
-    ∙ ap (λ k. take first b ++ (put v (cell c b) ++ k)) (drop-drop (first + size - first) first b ∙ ap (λ k. drop k b) {x = first + (first + size - first)} {y = start c + width c} (omega arith))
-    ∙ ap (λ k. take k b ++ (put v (cell c b) ++ drop (start c + width c) b)) e
 
 -- the columns before c are written, and then v in c
 column_next : (c : Column) (o p out : List ℕ) (v : ℕ) → length p ≡ start c → out ≡ p ++ drop (start c) o → length o ≡ line_bytes → 0 < width c → v < 10 ^ width c → v < 2 ^ 64 → (length (p ++ field (width c) v) ≡ start c + width c) × (put_cell c v out ≡ (p ++ field (width c) v) ++ drop (start c + width c) o)

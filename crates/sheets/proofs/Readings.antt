@@ -1,105 +1,90 @@
 -- The lines of a text, as they are read.
-use Rattle.std.proofs.Common.{◌≡◌, ℕ, zero, suc, ◌+◌, ◌-◌, ◌*◌, ◌<◌, ◌⊎◌, List, [], ◌∷◌, ◌++◌, length, get_or, take, drop, set, Some, None, Ok, Err, Option, Result, sym, refl, ap, ◌∙◌, inl, inr, arith}
-use Rattle.refusals.specs.declared.refusal.Refusal.{Refusal}
+use Rattle.std.proofs.Common.{◌≡◌, ℕ, zero, suc, ◌+◌, ◌*◌, ◌<◌, List, [], ◌∷◌, ◌++◌, length, get_or, take, drop, set, Some, None, Ok, Err, Option, Result, IfOk, IsOk, sym, refl, ap, ◌∙◌, subst, arith}
 use Rattle.plans.specs.declared.step.Step.{Step}
 use Rattle.sheets.specs.declared.fault.Fault.{Fault}
-use Rattle.sheets.specs.declared.column.Column.{Column}
+use Rattle.sheets.specs.declared.fault.Found.{Found}
 use Rattle.sheets.specs.Lines.{line_bytes}
-use Rattle.sheets.specs.Reading.{read_line, line_in, Found, or_next, first_fault, step_of, steps_from, text_lines, told, unless_found}
-use Rattle.sheets.specs.Places.{Place, at, moved, stand}
-use Rattle.std.proofs.lemmas.List.{drop_more, set_at, append_assoc}
+use Rattle.sheets.specs.Reading.{read_line, Reads, line_at, lines_from, or_next, first_fault_in, first_fault, step_of, steps_in, steps_from, text_lines}
+use Rattle.std.proofs.lemmas.List.{drop_more, set_at, take_more, length-take-le, append_assoc, drop-drop}
+use Rattle.std.specs.Simd.{first_chunks}
+use Rattle.std.specs.Result.{result_ok, MatchResult}
+use denote.Ref.{Bor}
+use Rattle.std.proofs.lemmas.Result.{MatchResult-at_ok}
+use Rattle.refusals.specs.declared.refusal.Refusal.{Refusal}
+use Rattle.std.proofs.lemmas.Bool.{false≢true}
 
-fault_step : (n i : ℕ) (t : List ℕ) → i < n → first_fault (n - i) i t ≡ or_next i (line_in i t) (first_fault (n - (i + 1)) (i + 1) t)
-fault_step n i t h = ap (λ k. first_fault k i t) {x = n - i} {y = suc (n - (i + 1))} (omega arith)
+-- the chunks of a text are its lines
+pub chunks_are : (n i : ℕ) (t : List ℕ) → first_chunks line_bytes n (drop (line_bytes * i) t) ≡ lines_from n i t
+chunks_are zero i t = refl
+chunks_are (suc n) i t =
+    ap (λ xs. line_at i t ∷ xs)
+    (ap (first_chunks line_bytes n) (drop-drop line_bytes (line_bytes * i) t ∙ ap (λ k. drop k t) {x = line_bytes * i + line_bytes} {y = line_bytes * (i + 1)} (omega arith)) ∙ chunks_are n (i + 1) t)
 
 -- ---- the steps
 pub length_steps : (n i : ℕ) (t : List ℕ) → length (steps_from n i t) ≡ n
 length_steps zero i t = refl
 length_steps (suc n) i t = ap suc (length_steps n (i + 1) t)
 
-steps_more : (n i : ℕ) (t : List ℕ) → steps_from (suc n) i t ≡ steps_from n i t ++ (step_of (line_in (i + n) t) ∷ [])
-steps_more zero i t = ap (λ k. step_of (line_in k t) ∷ []) {x = i} {y = i + 0} (omega arith)
-steps_more (suc n) i t =
-    ap (λ xs. step_of (line_in i t) ∷ xs) (steps_more n (i + 1) t ∙ ap (λ k. steps_from n (i + 1) t ++ (step_of (line_in k t) ∷ [])) {x = i + 1 + n} {y = i + suc n} (omega arith))
+length_steps_in : (i : ℕ) (ls : List (List ℕ)) → length (steps_in i ls) ≡ length ls
+length_steps_in i [] = refl
+length_steps_in i (b ∷ bs) = ap suc (length_steps_in (i + 1) bs)
 
-pub fill_more : (i : ℕ) (t : List ℕ) (table : List Step) (s : Step) → i < length table → Ok s ≡ line_in i t → set (steps_from i 0 t ++ drop i table) i s ≡ steps_from (i + 1) 0 t ++ drop (i + 1) table
-fill_more i t table s h e =
-    ap (λ xs. set (steps_from i 0 t ++ xs) i s) (drop_more table i s h)
-    ∙ set_at (steps_from i 0 t) (get_or table i s) (drop (i + 1) table) s i (length_steps i 0 t)
-    ∙ sym (append_assoc (steps_from i 0 t) (s ∷ []) (drop (i + 1) table))
+steps_push : (i : ℕ) (ls : List (List ℕ)) (b : List ℕ) → steps_in i (ls ++ (b ∷ [])) ≡ steps_in i ls ++ (step_of (read_line (i + length ls + 1) b) ∷ [])
+steps_push i [] b = ap (λ k. step_of (read_line k b) ∷ []) {x = i + 1} {y = i + 0 + 1} (omega arith)
+steps_push i (c ∷ cs) b =
+    ap (λ xs. step_of (read_line (i + 1) c) ∷ xs)
+    (steps_push (i + 1) cs b ∙ ap (λ k. steps_in (i + 1) cs ++ (step_of (read_line k b) ∷ [])) {x = i + 1 + length cs + 1} {y = i + suc (length cs) + 1} (omega arith))
+
+-- one more line is read into the table
+pub read_more : (ls : List (List ℕ)) (table : List Step) (i : ℕ) (s : Step) → i < length ls → i < length table → read_line (i + 1) (get_or ls i []) ≡ Ok s → set (steps_in 0 (take i ls) ++ drop i table) i s ≡ steps_in 0 (take (i + 1) ls) ++ drop (i + 1) table
+read_more ls table i s h room e =
+    let l : length (take i ls) ≡ i = length-take-le i ls (omega arith) in
+    ap (λ xs. set (steps_in 0 (take i ls) ++ xs) i s) (drop_more table i s room)
+    ∙ set_at (steps_in 0 (take i ls)) (get_or table i s) (drop (i + 1) table) s i (length_steps_in 0 (take i ls) ∙ l)
+    ∙ sym (append_assoc (steps_in 0 (take i ls)) (s ∷ []) (drop (i + 1) table))
     ∙ ap (λ xs. xs ++ drop (i + 1) table)
-    (ap (λ r. steps_from i 0 t ++ (step_of r ∷ [])) e
-    ∙ ap (λ k. steps_from i 0 t ++ (step_of (line_in k t) ∷ [])) {x = i} {y = 0 + i} (omega arith)
-    ∙ sym (steps_more i 0 t)
-    ∙ ap (λ k. steps_from k 0 t) {x = suc i} {y = i + 1} (omega arith))
+    (ap (λ r. steps_in 0 (take i ls) ++ (step_of r ∷ [])) (sym e)
+    ∙ ap (λ k. steps_in 0 (take i ls) ++ (step_of (read_line k (get_or ls i [])) ∷ [])) {x = i + 1} {y = 0 + length (take i ls) + 1} (omega arith)
+    ∙ sym (steps_push 0 (take i ls) (get_or ls i []))
+    ∙ ap (steps_in 0) (sym (take_more ls i [] h)))
 
-next_none : (i : ℕ) (r : Result Step Fault) (next : Option Found) → or_next i r next ≡ None → ((f : Fault) → r ≡ Err f → ⊥) × (next ≡ None)
-next_none i (Ok s) next e = ((λ f g. let z : ◌≡◌ {A = ℕ} 0 1 = cc in omega arith), e)
-next_none i (Err x) next e = let z : ◌≡◌ {A = ℕ} 0 1 = cc in (let f : ⊥ = omega arith in elim f [ ], let f : ⊥ = omega arith in elim f [ ])
+-- ---- the first fault
+-- a line that holds a step has no fault
+next_of : (i : ℕ) (r : Result Step Fault) (next : Option Found) → IsOk r → or_next i r next ≡ next
+next_of i (Ok s) next h = refl
+next_of i (Err f) next h = absurd (false≢true h)
 
--- below the end of lines with no fault stands none
-pub no_fault_from : (n i k : ℕ) (t : List ℕ) → first_fault n i t ≡ None → k < n → (f : Fault) → line_in (i + k) t ≡ Err f → ⊥
-no_fault_from zero i k t e h f g = omega arith
-no_fault_from (suc n) i zero t e h f g = (next_none i (line_in i t) (first_fault n (i + 1) t) e).0 f (ap (λ m. line_in m t) {x = i} {y = i + 0} (omega arith) ∙ g)
-no_fault_from (suc n) i (suc k) t e h f g =
-    no_fault_from n (i + 1) k t (next_none i (line_in i t) (first_fault n (i + 1) t) e).1 (omega arith) f (ap (λ m. line_in m t) {x = i + 1 + k} {y = i + suc k} (omega arith) ∙ g)
+faults_none : (ls : List (List ℕ)) (i : ℕ) → ((k : ℕ) → k < length ls → IsOk (read_line (i + k + 1) (get_or ls k []))) → first_fault_in i ls ≡ None
+faults_none [] i h = refl
+faults_none (b ∷ bs) i h =
+    next_of i (read_line (i + 1) b) _ (subst (λ (n : ℕ). IsOk (read_line n b)) {x = i + 0 + 1} {y = i + 1} (omega arith) (h 0 (omega arith)))
+    ∙ faults_none bs (i + 1) (λ k l. subst (λ (n : ℕ). IsOk (read_line n (get_or bs k []))) {x = i + suc k + 1} {y = i + 1 + k + 1} (omega arith) (h (suc k) (omega arith)))
 
-pub no_fault : (n i : ℕ) (t : List ℕ) → first_fault n 0 t ≡ None → i < n → (f : Fault) → line_in i t ≡ Err f → ⊥
-no_fault n i t e h f g = no_fault_from n 0 i t e h f (ap (λ m. line_in m t) {x = 0 + i} {y = i} (omega arith) ∙ g)
+faults_some : (ls : List (List ℕ)) (i k : ℕ) (f : Fault) → k < length ls → read_line (i + k + 1) (get_or ls k []) ≡ Err f → ((m : ℕ) → m < k → IsOk (read_line (i + m + 1) (get_or ls m []))) → first_fault_in i ls ≡ Some (record { before = i + k; fault = f })
+faults_some [] i k f l e h = absurd (omega arith)
+faults_some (b ∷ bs) i zero f l e h =
+    ap (λ n. or_next i (read_line n b) (first_fault_in (i + 1) bs)) {x = i + 1} {y = i + 0 + 1} (omega arith)
+    ∙ ap (λ r. or_next i r (first_fault_in (i + 1) bs)) e
+    ∙ ap (λ n. Some (record { before = n; fault = f })) {x = i} {y = i + 0} (omega arith)
+faults_some (b ∷ bs) i (suc k) f l e h =
+    next_of i (read_line (i + 1) b) _ (subst (λ (n : ℕ). IsOk (read_line n b)) {x = i + 0 + 1} {y = i + 1} (omega arith) (h 0 (omega arith)))
+    ∙ faults_some bs (i + 1) k f (omega arith) (ap (λ n. read_line n (get_or bs k [])) {x = i + 1 + k + 1} {y = i + suc k + 1} (omega arith) ∙ e) (λ m g. subst (λ (n : ℕ). IsOk (read_line n (get_or bs m []))) {x = i + suc m + 1} {y = i + 1 + m + 1} (omega arith) (h (suc m) (omega arith)))
+    ∙ ap (λ n. Some (record { before = n; fault = f })) {x = i + 1 + k} {y = i + suc k} (omega arith)
 
--- ---- a reader's turns
--- the bytes that a reader takes as a line
-pub line_part : (i : ℕ) (t : List ℕ) → read_line (i + 1) (take (line_bytes * i + line_bytes - line_bytes * i) (drop (line_bytes * i) t)) ≡ line_in i t
-line_part i t = ap (λ k. read_line (i + 1) (take k (drop (line_bytes * i) t))) {x = line_bytes * i + line_bytes - line_bytes * i} {y = line_bytes} (omega arith)
+module _ (t : List ℕ) (ls : List (List ℕ)) (whole : ls ≡ lines_from (length ls) 0 t) where
+  pub none_found : ((k : ℕ) → k < length ls → Reads ls k) → first_fault (length ls) 0 t ≡ None
+  none_found h = ap (first_fault_in 0) (sym whole) ∙ faults_none ls 0 (λ k l. subst (λ (n : ℕ). IsOk (read_line n (get_or ls k []))) {x = k + 1} {y = 0 + k + 1} (omega arith) (h k l))
 
-told_ok : (r : Result Step Fault) (s : Step) → Ok s ≡ told r → r ≡ Ok s
-told_ok (Ok x) s e = cc
-told_ok (Err f) s e = cc
+  pub one_found : (f : Found) → f.before < length ls → read_line (f.before + 1) (get_or ls f.before []) ≡ Err f.fault → ((k : ℕ) → k < f.before → Reads ls k) → first_fault (length ls) 0 t ≡ Some f
+  one_found f l e h =
+      ap (first_fault_in 0) (sym whole)
+      ∙ faults_some ls 0 f.before f.fault l (ap (λ n. read_line n (get_or ls f.before [])) {x = 0 + f.before + 1} {y = f.before + 1} (omega arith) ∙ e) (λ k g. subst (λ (n : ℕ). IsOk (read_line n (get_or ls k []))) {x = k + 1} {y = 0 + k + 1} (omega arith) (h k g))
+      ∙ ap (λ n. Some (record { before = n; fault = f.fault })) {x = 0 + f.before} {y = f.before} (omega arith)
 
-told_err : (r : Result Step Fault) (e : Refusal) → Err e ≡ told r → (f : Fault) × (r ≡ Err f) × (e ≡ f.refusal)
-told_err (Ok x) e h = let z : ◌≡◌ {A = ℕ} 0 1 = cc in let f : ⊥ = omega arith in elim f [ ]
-told_err (Err f) e h = (f, refl, cc)
+ok_was : {T E : Type 0} (r : Result T E) (x : T) → result_ok r ≡ Some x → r ≡ Ok x
+ok_was (Ok y) x e = cc
+ok_was (Err f) x e = cc
 
--- a turn at a line that holds a step: the place after it, and the faults that may still come
-pub turn_passes : (n i : ℕ) (u t : List ℕ) (s : Step) (p : Place) → u ≡ t → i < n → Ok s ≡ told (line_in i u) → p ≡ moved i (line_in i u) → (p ≡ at (i + 1) None) × (line_in i t ≡ Ok s) × (first_fault (n - i) i t ≡ first_fault (n - (i + 1)) (i + 1) t)
-turn_passes n i u t s p same h e q =
-    let l : line_in i u ≡ Ok s = told_ok (line_in i u) s e in
-    let k : line_in i t ≡ Ok s = ap (line_in i) (sym same) ∙ l in
-    (q ∙ ap (moved i) l, k, fault_step n i t h ∙ ap (λ r. or_next i r (first_fault (n - (i + 1)) (i + 1) t)) k)
-
--- a turn at a line with a fault: the refusal, and the place
-pub turn_stops : (n i : ℕ) (u t : List ℕ) (e : Refusal) (p : Place) → u ≡ t → i < n → Err e ≡ told (line_in i u) → p ≡ moved i (line_in i u) → first_fault n 0 t ≡ first_fault (n - i) i t → (Err e ≡ unless_found (first_fault n 0 t) (tt {0})) × (p ≡ stand n (first_fault n 0 t))
-turn_stops n i u t e p same h r q inv =
-    let f = told_err (line_in i u) e r in
-    let o = inv ∙ fault_step n i t h ∙ ap (λ x. or_next i x (first_fault (n - (i + 1)) (i + 1) t)) (ap (line_in i) (sym same) ∙ f.1) in
-    (ap Err f.2 ∙ sym (ap (λ x. unless_found x (tt {0})) o), q ∙ ap (moved i) f.1 ∙ sym (ap (stand n) o))
-
--- a line below the end of lines with no fault has none
-pub turn_clean : (n i : ℕ) (u t : List ℕ) (e : Refusal) → u ≡ t → i < n → first_fault n 0 t ≡ None → Err e ≡ told (line_in i u) → ⊥
-turn_clean n i u t e same h clean r =
-    let f = told_err (line_in i u) e r in
-    no_fault n i t clean h f.0 (ap (line_in i) (sym same) ∙ f.1)
-
--- ---- where the first fault stands
-next_some : (i : ℕ) (r : Result Step Fault) (next : Option Found) (f : Found) → or_next i r next ≡ Some f → (f.before ≡ i) ⊎ (next ≡ Some f)
-next_some i (Ok s) next f e = inr e
-next_some i (Err x) next f e = let q : record { before = i; fault = x } ≡ f = cc in inl (sym (ap (λ g. g.before) q))
-
-fault_before : (n i : ℕ) (t : List ℕ) (f : Found) → first_fault n i t ≡ Some f → f.before < i + n
-fault_before zero i t f e = let z : ◌≡◌ {A = ℕ} 0 1 = cc in omega arith
-fault_before (suc n) i t f e =
-    elim (next_some i (line_in i t) (first_fault n (i + 1) t) f e) [ inl h ↦ omega arith | inr h ↦ omega (arith, fault_before n (i + 1) t f h) ]
-
-stand_within : (n : ℕ) (o : Option Found) (c : Column) → ((f : Found) → o ≡ Some f → f.before < n) → (stand n o).column ≡ Some c → (stand n o).line < n
-stand_within n None c h e = let z : ◌≡◌ {A = ℕ} 0 1 = cc in omega arith
-stand_within n (Some f) c h e = h f refl
-
--- a column at fault is in one of the lines
-pub fault_within : (n : ℕ) (t : List ℕ) (p : Place) (c : Column) → p ≡ stand n (first_fault n 0 t) → p.column ≡ Some c → p.line < n
-fault_within n t p c e h =
-    let l = stand_within n (first_fault n 0 t) c (λ f q. omega (arith, fault_before n 0 t f q)) (sym (ap (λ x. x.column) e) ∙ h) in
-    omega (arith, ap (λ x. x.line) e)
-
--- a text of n lines has the bytes of n lines
-pub lines_whole : (bytes n : ℕ) → Ok n ≡ text_lines bytes → line_bytes * n ≡ bytes
-lines_whole bytes n e = grind (arith)
+-- what is known of a text's lines, where they were taken from an answer
+pub lines_are : (t : List ℕ) (r : Result (Bor (List (List ℕ))) Refusal) (ls : Bor (List (List ℕ))) → result_ok r ≡ Some ls → MatchResult r (λ ls. text_lines (length t) ≡ Ok (length ls.now)) (λ e. text_lines (length t) ≡ Err e) → IfOk r (λ ls. ls.now ≡ lines_from (length ls.now) 0 t) → (text_lines (length t) ≡ Ok (length ls.now)) × (ls.now ≡ lines_from (length ls.now) 0 t)
+lines_are t r ls e count lines = (MatchResult-at_ok _ _ ls (ok_was r ls e) count, MatchResult-at_ok _ _ ls (ok_was r ls e) lines)

@@ -1,17 +1,20 @@
 -- The steps that were read are written as the same text.
 use Rattle.std.proofs.Common.{◌≡◌, ℕ, zero, suc, ◌+◌, ◌*◌, ◌^◌, ◌<◌, ◌≤◌, Bool, true, false, cond, eqb, List, [], ◌∷◌, ◌++◌, length, get_or, take, drop, is_ok, IfOk, Some, None, Ok, Err, Decides, Option, Result, sym, refl, ap, ◌∙◌, subst, arith}
 use Rattle.refusals.specs.declared.refusal.Refusal.{Refusal}
+use Rattle.refusals.specs.Faults.{and_then}
 use Rattle.fields.specs.Field.{field, field_value}
 use Rattle.fields.proofs.Inverse.{write_field}
 use Rattle.plans.specs.declared.step.Step.{Step}
 use Rattle.sheets.specs.declared.fault.Fault.{Fault}
+use Rattle.sheets.specs.declared.fault.Found.{Found}
+use Rattle.sheets.specs.declared.fault.Place.{Place}
 use Rattle.sheets.specs.declared.column.Column.{Column}
 use Rattle.sheets.specs.declared.column.Column.TheVariants.{Number, First, Second, Value}
 use Rattle.sheets.specs.Columns.{width, cell}
 use Rattle.sheets.specs.Lines.{line, line_bytes, newline, Writable}
 use Rattle.sheets.specs.Sheets.{sheet, sheet_from, AllWritable, IsSheet}
-use Rattle.sheets.specs.Reading.{number_in, and_then, read_line, line_at, line_in, Found, or_next, first_fault, step_of, steps_from, text_lines, room_for, read_lines, read_sheet, counted, filled, unless_found}
-use Rattle.sheets.specs.Places.{Place, outset, stand, standing, stand_in}
+use Rattle.sheets.specs.Reading.{number_in, read_line, line_at, line_in, or_next, first_fault, step_of, steps_from, text_lines, room_for, read_lines, read_sheet, counted, filled, unless_found}
+use Rattle.sheets.specs.Places.{at, place_in, outset, stand, standing, stand_in}
 use Rattle.std.proofs.lemmas.Bool.{false≢true, eqb-true}
 use Rattle.std.proofs.lemmas.List.{take_at, length-drop, length-take-le, drop-drop, drop_all, drop_more, take-append-drop}
 use Rattle.sheets.proofs.Lines.{number_held, length_cell, cell_bound}
@@ -96,19 +99,11 @@ sheet_back (suc n) i t l e =
 
 -- ---- what reading comes to
 -- n lines have their bytes, and are no more than allowed
-whole_lines : (bytes n m : ℕ) → Ok n ≡ room_for m (text_lines bytes) → (line_bytes * (0 + n) ≡ bytes) × (n ≤ 128) × (n ≤ m)
+whole_lines : (bytes n m : ℕ) → room_for m (text_lines bytes) ≡ Ok n → (line_bytes * (0 + n) ≡ bytes) × (n ≤ 128) × (n ≤ m)
 whole_lines bytes n m e = (grind (arith), grind (arith), grind (arith))
 
-found_none : (o : Option Found) → Ok (tt {0}) ≡ unless_found o (tt {0}) → o ≡ None
-found_none None e = refl
-found_none (Some f) e = cc
-
-found_some : (o : Option Found) (ss : List Step) (e : Refusal) → Err e ≡ unless_found o (tt {0}) → unless_found o ss ≡ Err e
-found_some None ss e h = cc
-found_some (Some f) ss e h = cc
-
 -- a text that is read is a sheet
-is_sheet : (t : List ℕ) (m n : ℕ) → Ok n ≡ room_for m (text_lines (length t)) → first_fault n 0 t ≡ None → IsSheet m t
+is_sheet : (t : List ℕ) (m n : ℕ) → room_for m (text_lines (length t)) ≡ Ok n → first_fault n 0 t ≡ None → IsSheet m t
 is_sheet t m n room clean =
     let b = sheet_back n 0 t (whole_lines (length t) n m room).0 clean in
     let l = length_steps n 0 t in
@@ -141,26 +136,26 @@ refused t m was e p r q =
     }
 
 -- refused for its length, or for the table
-pub outcome_short : (t : List ℕ) (m : ℕ) (was : List Step) (e : Refusal) → Err e ≡ room_for m (text_lines (length t)) → Outcome t m was (Err e) was outset
-outcome_short t m was e h = refused t m was e outset (ap (λ r. read_lines r t) (sym h)) (ap (λ r. stand_in r t) h)
+pub outcome_short : (t : List ℕ) (m : ℕ) (was : List Step) (e : Refusal) → room_for m (text_lines (length t)) ≡ Err e → Outcome t m was (Err e) was outset
+outcome_short t m was e h = refused t m was e outset (ap (λ r. read_lines r t) h) (sym (ap (λ r. stand_in r t) h))
 
 -- refused for a line
-pub outcome_fault : (t : List ℕ) (m n : ℕ) (was : List Step) (e : Refusal) (p : Place) → Ok n ≡ room_for m (text_lines (length t)) → Err e ≡ unless_found (first_fault n 0 t) (tt {0}) → p ≡ stand n (first_fault n 0 t) → Outcome t m was (Err e) was p
-outcome_fault t m n was e p room h q =
-    refused t m was e p (ap (λ r. read_lines r t) (sym room) ∙ found_some (first_fault n 0 t) (steps_from n 0 t) e h) (q ∙ ap (λ r. stand_in r t) room)
+pub outcome_fault : (t : List ℕ) (m n : ℕ) (was : List Step) (f : Found) → room_for m (text_lines (length t)) ≡ Ok n → first_fault n 0 t ≡ Some f → Outcome t m was (Err f.fault.refusal) was (place_in f)
+outcome_fault t m n was f room h =
+    refused t m was f.fault.refusal (place_in f)
+    (ap (λ r. read_lines r t) room ∙ ap (λ o. unless_found o (steps_from n 0 t)) h)
+    (sym (ap (λ r. stand_in r t) room ∙ ap (stand n) h))
 
--- read, from a text that is the same as t
-pub outcome_read : (t u : List ℕ) (m n : ℕ) (was table : List Step) (p : Place) → u ≡ t → Ok n ≡ room_for m (text_lines (length t)) → Ok (tt {0}) ≡ unless_found (first_fault n 0 t) (tt {0}) → table ≡ steps_from n 0 u ++ drop n was → p ≡ stand n None → Outcome t m was (Ok n) table p
-outcome_read t u m n was table p same room passes fills stands =
-    let clean = found_none (first_fault n 0 t) passes in
+-- read
+pub outcome_read : (t : List ℕ) (m n : ℕ) (was table : List Step) → room_for m (text_lines (length t)) ≡ Ok n → first_fault n 0 t ≡ None → table ≡ steps_from n 0 t ++ drop n was → Outcome t m was (Ok n) table (at n None)
+outcome_read t m n was table room clean fills =
     let l = length_steps n 0 t in
     let s = is_sheet t m n room clean in
-    let f : table ≡ steps_from n 0 t ++ drop n was = fills ∙ ap (λ x. steps_from n 0 x ++ drop n was) same in
-    let e : read_sheet t m ≡ Ok (steps_from n 0 t) = ap (λ r. read_lines r t) (sym room) ∙ ap (λ o. unless_found o (steps_from n 0 t)) clean in
+    let e : read_sheet t m ≡ Ok (steps_from n 0 t) = ap (λ r. read_lines r t) room ∙ ap (λ o. unless_found o (steps_from n 0 t)) clean in
     record {
       answer = ap Ok (sym l) ∙ sym (ap counted e);
-      after = f ∙ ap (λ k. steps_from n 0 t ++ drop k was) (sym l) ∙ sym (ap (λ r. filled r was) e);
-      place = stands ∙ sym (ap (λ r. stand_in r t) (sym room) ∙ ap (stand n) clean);
+      after = fills ∙ ap (λ k. steps_from n 0 t ++ drop k was) (sym l) ∙ sym (ap (λ r. filled r was) e);
+      place = sym (ap (λ r. stand_in r t) room ∙ ap (stand n) clean);
       exactly = ((λ _. s), λ _. refl);
-      back = ap (λ xs. sheet (take n xs)) f ∙ ap sheet (take_at (steps_from n 0 t) (drop n was) n l) ∙ (sheet_back n 0 t (whole_lines (length t) n m room).0 clean).0;
+      back = ap (λ xs. sheet (take n xs)) fills ∙ ap sheet (take_at (steps_from n 0 t) (drop n was) n l) ∙ (sheet_back n 0 t (whole_lines (length t) n m room).0 clean).0;
     }

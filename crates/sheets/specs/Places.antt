@@ -1,39 +1,33 @@
 -- Where a reader stands in a text, and the field at fault. Assumes nothing.
 use Rattle.std.specs.Prelude.{ℕ, ◌+◌, ◌*◌, List, length, take, drop, Some, None, Ok, Err, Option, Result}
 use Rattle.refusals.specs.declared.refusal.Refusal.{Refusal}
-use Rattle.plans.specs.declared.step.Step.{Step}
 use Rattle.sheets.specs.declared.column.Column.{Column}
-use Rattle.sheets.specs.declared.fault.Fault.{Fault}
+use Rattle.sheets.specs.declared.fault.Found.{Found}
+use Rattle.sheets.specs.declared.fault.Place.{Place}
 use Rattle.sheets.specs.declared.reader.SheetReader.{SheetReader}
 use Rattle.sheets.specs.Columns.{start, width}
 use Rattle.sheets.specs.Lines.{line_bytes}
-use Rattle.sheets.specs.Reading.{Found, first_fault, text_lines, room_for}
-
--- a line, by the number of lines before it, and the column at fault, if one is
-pub record Place : Type 0 where
-  pub line : ℕ
-  pub column : Option Column
+use Rattle.sheets.specs.Reading.{first_fault, text_lines, room_for}
 
 abbrev pub at : ℕ → Option Column → Place
 at i c = record { line = i; column = c }
 
+-- where a fault is
+abbrev pub place_in : Found → Place
+place_in f = at f.before f.fault.column
+
 -- where a reader stands
 abbrev pub place_of : SheetReader → Place
-place_of r = at r.line r.column
+place_of r = r.place
 
 -- before the first line
 abbrev pub outset : Place
 outset = at 0 None
 
--- after the line at i is read: at the next, or at its fault
-abbrev pub moved : ℕ → Result Step Fault → Place
-moved i (Ok s) = at (i + 1) None
-moved i (Err f) = at i f.column
-
 -- after n lines with this first fault: past them all, or at the fault
 abbrev pub stand : ℕ → Option Found → Place
 stand n None = at n None
-stand n (Some f) = at f.before f.fault.column
+stand n (Some f) = place_in f
 
 -- after the lines of a text are read
 abbrev pub stand_in : Result ℕ Refusal → List ℕ → Place

@@ -1,11 +1,13 @@
 -- Sheets, as they are read: the steps, or the first fault. Assumes nothing.
-use Rattle.std.specs.Prelude.{ℕ, zero, suc, ◌+◌, ◌-◌, ◌*◌, ◌/◌, ◌%◌, cond, List, [], ◌∷◌, ◌++◌, length, take, drop, Some, None, Ok, Err, Option, Result, ◌==◌, nat_le, slice_index}
+use Rattle.std.specs.Prelude.{ℕ, zero, suc, ◌+◌, ◌-◌, ◌*◌, ◌/◌, ◌%◌, cond, List, [], ◌∷◌, ◌++◌, length, take, drop, Some, None, Ok, Err, Option, Result, ◌==◌, nat_le, slice_index, slice_index_or, IsOk}
 use Rattle.refusals.specs.declared.refusal.Refusal.{Refusal}
 use Rattle.refusals.specs.declared.refusal.Refusal.TheVariants.{TooLong, SheetLine, Field, StepNumber, TableShort}
+use Rattle.refusals.specs.Faults.{and_then}
 use Rattle.fields.specs.Field.{field_value}
 use Rattle.plans.specs.declared.step.Step.{Step}
 use Rattle.plans.specs.Chain.{no_step}
 use Rattle.sheets.specs.declared.fault.Fault.{Fault}
+use Rattle.sheets.specs.declared.fault.Found.{Found}
 use Rattle.sheets.specs.declared.column.Column.{Column}
 use Rattle.sheets.specs.declared.column.Column.TheVariants.{Number, First, Second, Value}
 use Rattle.sheets.specs.Columns.{cell}
@@ -19,11 +21,6 @@ fault e c = record { refusal = e; column = c }
 abbrev pub number_in : ℕ → Column → Option ℕ → Result ℕ Fault
 number_in i c (Some v) = Ok v
 number_in i c None = Err (fault (Field i) (Some c))
-
--- what comes after, unless there is a fault
-abbrev pub and_then : {X Y : Type 0} → Result X Fault → (X → Result Y Fault) → Result Y Fault
-and_then (Ok x) go = go x
-and_then (Err f) go = Err f
 
 -- what comes of the numbers in the columns of line i, read from the left
 abbrev pub numbers : ℕ → List ℕ → (ℕ → ℕ → ℕ → ℕ → Result Step Fault) → Result Step Fault
@@ -41,6 +38,10 @@ numbered i n j k v = cond (n == i) (Ok (record { j = j; k = k; value = v })) (Er
 abbrev pub read_line : ℕ → List ℕ → Result Step Fault
 read_line i b = cond (slice_index b (line_bytes - 1) == newline) (numbers i b (numbered i)) (Err (fault (SheetLine i) None))
 
+-- line i + 1 of these lines holds a step
+abbrev pub Reads : List (List ℕ) → ℕ → Type 0
+Reads ls i = IsOk (read_line (i + 1) (slice_index_or ls i []))
+
 -- line i + 1 of a text
 abbrev pub line_at : ℕ → List ℕ → List ℕ
 line_at i t = take line_bytes (drop (line_bytes * i) t)
@@ -49,25 +50,24 @@ line_at i t = take line_bytes (drop (line_bytes * i) t)
 abbrev pub line_in : ℕ → List ℕ → Result Step Fault
 line_in i t = read_line (i + 1) (line_at i t)
 
--- the step of a line, or its refusal
-abbrev pub told : Result Step Fault → Result Step Refusal
-told (Ok s) = Ok s
-told (Err f) = Err f.refusal
-
--- a fault in a text, with the number of lines before it
-pub record Found : Type 0 where
-  pub before : ℕ
-  pub fault : Fault
+-- the n lines after line i
+abbrev pub lines_from : ℕ → ℕ → List ℕ → List (List ℕ)
+lines_from zero i t = []
+lines_from (suc n) i t = line_at i t ∷ lines_from n (i + 1) t
 
 -- the fault after i lines, or else what comes next
 abbrev pub or_next : {X : Type 0} → ℕ → Result X Fault → Option Found → Option Found
 or_next i (Ok x) next = next
 or_next i (Err f) next = Some (record { before = i; fault = f })
 
+-- the first fault of lines that stand after i others
+abbrev pub first_fault_in : ℕ → List (List ℕ) → Option Found
+first_fault_in i [] = None
+first_fault_in i (b ∷ bs) = or_next i (read_line (i + 1) b) (first_fault_in (i + 1) bs)
+
 -- the first fault of the n lines after line i
 abbrev pub first_fault : ℕ → ℕ → List ℕ → Option Found
-first_fault zero i t = None
-first_fault (suc n) i t = or_next i (line_in i t) (first_fault n (i + 1) t)
+first_fault n i t = first_fault_in i (lines_from n i t)
 
 -- what is handed out, unless there is a fault
 abbrev pub unless_found : {X : Type 0} → Option Found → X → Result X Refusal
@@ -79,10 +79,14 @@ abbrev pub step_of : Result Step Fault → Step
 step_of (Ok s) = s
 step_of (Err f) = no_step
 
+-- the steps of lines that stand after i others
+abbrev pub steps_in : ℕ → List (List ℕ) → List Step
+steps_in i [] = []
+steps_in i (b ∷ bs) = step_of (read_line (i + 1) b) ∷ steps_in (i + 1) bs
+
 -- the steps of the n lines after line i
 abbrev pub steps_from : ℕ → ℕ → List ℕ → List Step
-steps_from zero i t = []
-steps_from (suc n) i t = step_of (line_in i t) ∷ steps_from n (i + 1) t
+steps_from n i t = steps_in i (lines_from n i t)
 
 -- how many lines a text of so many bytes has
 abbrev pub text_lines : ℕ → Result ℕ Refusal

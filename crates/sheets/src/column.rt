@@ -1,9 +1,11 @@
 //! The columns of a line.
-ghost use Rattle.std.specs.Prelude.{◌≡◌};
+ghost use Rattle.std.specs.Prelude.{◌≡◌, ◌+◌};
 ghost use Rattle.sheets.specs.Columns.{start, width};
 
+use std::ops::Range;
+
 /// The fields of a line, from the left: the step number, the two values that the step cites, and its value.
-#[derive(Clone, Copy)]
+#[derive(Clone, Copy, Debug)]
 pub(crate) enum Column {
     Number,
     First,
@@ -12,15 +14,15 @@ pub(crate) enum Column {
 }
 
 impl Column {
-    // The byte of a line at which the column begins, and how many bytes it has.
-    pub(crate) fn span(self) -> (usize, usize)
-        ensures { (result.0 ≡ start self) × (result.1 ≡ width self) }
+    // The bytes of a line that the column has.
+    pub(crate) fn span(self) -> Range<usize>
+        ensures { result ≡ record { start = start self; end = start self + width self } }
     {
         match self {
-            Column::Number => (0, 4),
-            Column::First => (4, 4),
-            Column::Second => (8, 4),
-            Column::Value => (12, 19),
+            Column::Number => 0..4,
+            Column::First => 4..8,
+            Column::Second => 8..12,
+            Column::Value => 12..31,
         }
     }
 }

@@ -1,6 +1,6 @@
 //! Sheets: a plan as text, one line of 32 bytes for each step.
 //! `write` has the sheet of a plan, `reader` the view that reads one; below them stand `column` with the columns of a line,
-//! `fault` with what is wrong with a line, `line` with a line written and read, and `text` with the count of a text's lines.
+//! `fault` with what is wrong with a line and where, `line` with a line written and read, and `text` with the lines of a text.
 #![tactic(auto)]
 
 mod column;

@@ -1,8 +1,8 @@
 //! A line of a sheet.
-ghost use Rattle.std.specs.Prelude.{◌≡◌, ◌^◌, ◌<◌, length, IfOk};
+ghost use Rattle.std.specs.Prelude.{◌≡◌, ◌^◌, ◌<◌, IfOk};
 ghost use Rattle.fields.specs.Field.{field_value};
 ghost use Rattle.sheets.specs.Columns.{cell, put_cell, width};
-ghost use Rattle.sheets.specs.Lines.{line, line_bytes, Writable};
+ghost use Rattle.sheets.specs.Lines.{line, Writable};
 ghost use Rattle.sheets.specs.Reading.{number_in, read_line};
 
 use crate::column::Column;
@@ -15,48 +15,41 @@ use refusals::Refusal;
 pub const LINE_BYTES: usize = 32;
 
 // Writes a number into a column of a line, where the column has room for it.
-fn write_number(line: &mut [u8], column: Column, v: u64)
-    requires whole { length line.old ≡ line_bytes }
-    ensures after { line.new ≡ put_cell column v line.old }
+fn write_number(line: &mut [u8; LINE_BYTES], column: Column, v: u64)
+    ensures { line.new ≡ put_cell column v line.old }
 {
-    let (first, size) = column.span();
-    write_field(&mut line[first..first + size], v);
+    write_field(&mut line[column.span()], v);
 }
 
-// Writes step number `i` as a line: its number, the two values that it cites, its value, and a newline.
-pub(crate) fn write_line(out: &mut [u8], i: usize, step: &Step)
-    requires room { length out.old ≡ line_bytes }
+// Step number `i` as a line: its number, the two values that it cites, its value, and a newline.
+pub(crate) fn write_line(i: usize, step: &Step) -> [u8; LINE_BYTES]
     requires number { i < 10 ^ 4 }
     requires step { Writable step.now }
-    ensures after { out.new ≡ line i step.now }
+    ensures { result ≡ line i step.now }
 {
-    write_number(out, Column::Number, i as u64);
-    write_number(out, Column::First, step.j as u64);
-    write_number(out, Column::Second, step.k as u64);
-    write_number(out, Column::Value, step.value);
-    out[LINE_BYTES - 1] = b'\n';
+    let mut line = [b' '; LINE_BYTES];
+    write_number(&mut line, Column::Number, i as u64);
+    write_number(&mut line, Column::First, u64::from(step.j));
+    write_number(&mut line, Column::Second, u64::from(step.k));
+    write_number(&mut line, Column::Value, step.value);
+    line[LINE_BYTES - 1] = b'\n';
+    line
 }
 
 // The number in a column of line `i`.
-fn number_in(line: &[u8], i: usize, column: Column) -> Result<u64, Fault>
-    requires whole { length line.now ≡ line_bytes }
+fn number_in(line: &[u8; LINE_BYTES], i: usize, column: Column) -> Result<u64, Fault>
     ensures value { result ≡ number_in i column (field_value (cell column line.now)) }
     ensures bound { IfOk result (λ v. v < 10 ^ width column) }
 {
-    let (first, size) = column.span();
-    match parse_field(&line[first..first + size]) {
-        Some(v) => Ok(v),
-        None => Err(Fault {
-            refusal: Refusal::Field(i as u64),
-            column: Some(column),
-        }),
-    }
+    parse_field(&line[column.span()]).ok_or(Fault {
+        refusal: Refusal::Field(i as u64),
+        column: Some(column),
+    })
 }
 
 // The step in line `i`: its newline is checked, then its columns from the left, then its step number.
-pub(crate) fn read_line(line: &[u8], i: usize) -> Result<Step, Fault>
-    requires whole { length line.now ≡ line_bytes }
-    ensures value { result ≡ read_line i line.now }
+pub(crate) fn read_line(line: &[u8; LINE_BYTES], i: usize) -> Result<Step, Fault>
+    ensures { result ≡ read_line i line.now }
 {
     if line[LINE_BYTES - 1] != b'\n' {
         return Err(Fault {

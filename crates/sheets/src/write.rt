@@ -18,12 +18,9 @@ pub fn write_sheet(plan: &Plan<'_>, out: &mut [u8]) -> Result<usize, Refusal>
     if size > out.len() {
         return Err(Refusal::TableShort(size as u64));
     }
-    for i in 0..steps.len() {
-        write_line(
-            &mut out[LINE_BYTES * i..LINE_BYTES * i + LINE_BYTES],
-            i + 1,
-            &steps[i],
-        );
+    for (i, step) in steps.iter().enumerate() {
+        let from = LINE_BYTES * i;
+        out[from..from + LINE_BYTES].copy_from_slice(&write_line(i + 1, step));
     }
     Ok(size)
 }

@@ -1,7 +1,7 @@
 -- A straight run, step by step: after i steps the first i + 1 places hold powers, and the others are as they were. Assumes nothing.
 use Rattle.std.proofs.Common.{◌≡◌, ℕ, zero, suc, ◌+◌, ◌<◌, ◌≤◌, true, false, List, [], ◌∷◌, ◌++◌, length, get_or, take, drop, set, Some, None, Option, sym, refl, ap, ◌∙◌, subst, ap₂, add-one, arith, take-append-drop}
 use lib.ListN.{length-map}
-use Rattle.std.proofs.lemmas.List.{get_or-set_same, get_or-take, get_or-map, take_more, take_more_set, drop-set-lt, drop-drop, take_all}
+use Rattle.std.proofs.lemmas.List.{get_or-take, get_or-map, take_more, take_more_set, drop-set-lt, drop-drop, take_all}
 use Rattle.std.proofs.lemmas.Bool.{lt-leb, le-leb}
 use Rattle.refusals.specs.declared.refusal.Refusal.{Refusal}
 use Rattle.refusals.specs.declared.refusal.Refusal.TheVariants.{NotNative, TableShort}
@@ -35,12 +35,10 @@ holds_all all was now count e f =
 pub holds_at : {V : Type 0} (all was now : List V) (count i : ℕ) (d : V) → i < count → Holds all was now count → get_or now i d ≡ get_or all i d
 holds_at all was now count i d h f = sym (get_or-take count now i d h) ∙ ap (λ (xs : List _). get_or xs i d) f.front ∙ get_or-take count all i d h
 
--- Of what the first place was given, as of the base.
-pub from_base : {V : Type 0} (P : V → Type 0) (was : List V) (x : V) → 0 < length was → ((d : V) → P (get_or (set was 0 x) 0 d)) → P x
-from_base P was x h p = subst P (get_or-set_same was 0 x x h) (p x)
-
-pub to_base : {V : Type 0} (P : V → Type 0) (was : List V) (x : V) → 0 < length was → P x → (d : V) → P (get_or (set was 0 x) 0 d)
-to_base P was x h p d = subst P (sym (get_or-set_same was 0 x d h)) p
+-- at first the base stands in the first place
+pub holds_base : {V : Type 0} (m : Meaning V) (s : List Step) (x : V) (was : List V) → 0 < length was → Holds (powers_of m s x) (set was 0 x) (set was 0 x) 1
+holds_base m s x [] h = absurd (omega arith)
+holds_base m s x (y ∷ ys) h = record { front = refl; back = refl }
 
 pub values_length : (s : List Step) → length (values s) ≡ length s + 1
 values_length s = ap suc (length-map s (λ x. x.value)) ∙ sym (add-one (length s))

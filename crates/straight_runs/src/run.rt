@@ -14,9 +14,9 @@ pub fn straight_run<K: Kind>(
     base: K::Value,
     powers: &mut [K::Value],
 ) -> Result<(), Refusal>
-    ensures answer { result ≡ straight_answer (K.Kind.kind kind.now) plan.now.steps.now base (length powers.old) }
-    ensures after { powers.new ≡ straight_after (K.Kind.kind kind.now) plan.now.steps.now base powers.old }
-    ensures powers { PowersAdd (K.Kind.kind kind.now) }
+    ensures answer { result ≡ straight_answer (K.kind kind.now) plan.now.steps.now base (length powers.old) }
+    ensures after { powers.new ≡ straight_after (K.kind kind.now) plan.now.steps.now base powers.old }
+    ensures powers { PowersAdd (K.kind kind.now) }
 {
     if !kind.is_native(base) {
         return Err(Refusal::NotNative);
@@ -27,10 +27,9 @@ pub fn straight_run<K: Kind>(
         return Err(Refusal::TableShort(wanted as u64));
     }
     powers[0] = base;
-    for i in 0..steps.len() {
-        let step = steps[i];
-        let a = powers[step.j as usize];
-        let b = powers[step.k as usize];
+    for (i, step) in steps.iter().enumerate() {
+        let a = powers[usize::from(step.j)];
+        let b = powers[usize::from(step.k)];
         powers[i + 1] = kind.product(a, b).unwrap();
     }
     Ok(())

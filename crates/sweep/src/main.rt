@@ -2,27 +2,35 @@
 #![tactic(auto)]
 
 use methods::Method;
-use plans::{MOST_STEPS, Plan, Step};
-use power_tree::PARENTS;
-use std::io;
+use plain_numbers::{METHODS, PlanTables};
+use plans::{MOST_STEPS, NO_STEP, Plan, Step};
+use std::num::Saturating;
+use std::{fmt, io};
 use trimming::trim;
 
 const TOP: u64 = 1024;
 
-// The tables that a plan is written into.
-#[derive(Clone, Copy)]
-struct Tables {
-    steps: [Step; MOST_STEPS],
-    trimmed: [Step; MOST_STEPS],
-    parents: [u16; PARENTS],
+// What came out of the plans.
+#[derive(Clone, Copy, Default)]
+struct Tally {
+    planned: Saturating<u32>,
+    faults: Saturating<u32>,
+    trimmed: Saturating<u32>,
 }
 
-// What came out of the plans.
-#[derive(Clone, Copy)]
-struct Tally {
-    planned: u32,
-    faults: u32,
-    trimmed: u32,
+impl fmt::Display for Tally {
+    fn fmt<W: fmt::Write>(&self, f: &mut fmt::Formatter<W>) -> fmt::Result {
+        let Tally {
+            planned,
+            faults,
+            trimmed,
+        } = self;
+        writeln!(
+            f,
+            "{planned} plans admitted, of their length, and admitted again when trimmed; {faults} faults"
+        )?;
+        write!(f, "{trimmed} plans had idle steps")
+    }
 }
 
 // The length that the formula gives for the plan of n by digits of so many bits.
@@ -38,9 +46,7 @@ fn digits_length(n: u64, width: u32) -> u64 {
         if rest < m {
             break;
         }
-        if rest % m == 0 {
-            zeros = zeros.saturating_add(1);
-        }
+        zeros = zeros.saturating_add(u64::from(rest % m == 0));
         rest /= m;
         lower = lower.saturating_add(1);
     }
@@ -52,9 +58,9 @@ fn digits_length(n: u64, width: u32) -> u64 {
         .saturating_sub(skipped)
 }
 
-// The place of the highest one bit.
+// The place of the highest one bit; 0 for 0, which has none.
 fn top(n: u64) -> u64 {
-    63u64.saturating_sub(u64::from(n.leading_zeros()))
+    n.checked_ilog2().map_or(0, u64::from)
 }
 
 // Whether a plan of n by the method may have this length.
@@ -70,84 +76,32 @@ fn has_length(method: Method, n: u64, length: u64) -> bool {
     }
 }
 
-// Whether the first steps of a table are a plan of n.
-fn is_plan(n: u64, table: &[Step], length: usize) -> bool {
-    if length > table.len() {
-        return false;
-    }
-    let mut plan = Plan::one();
-    plan.admit(n, &table[0..length]).is_ok()
-}
-
-// Trims the first steps of a table, which are a plan of n, into another, and answers the new length.
-fn trimmed_length(n: u64, table: &[Step], length: usize, trimmed: &mut [Step]) -> Option<usize> {
-    if length > table.len() {
-        return None;
-    }
-    let mut plan = Plan::one();
-    let admitted = plan.admit(n, &table[0..length]);
-    if admitted.is_err() {
-        return None;
-    }
-    trim(&plan, trimmed).ok()
-}
-
-// Plans, admits and trims one exponent; answers whether the plan lost steps, or nothing where something is wrong.
-fn try_one(method: Method, n: u64, tables: &mut Tables) -> Option<bool> {
+// Plans, admits and trims one exponent into a second table; answers whether the plan lost steps, or nothing where something is wrong.
+fn try_one(method: Method, n: u64, tables: &mut PlanTables, trimmed: &mut [Step]) -> Option<bool> {
     let length = method.plan(n, &mut tables.steps, &mut tables.parents).ok()?;
-    if !has_length(method, n, length as u64) || !is_plan(n, &tables.steps, length) {
+    let plan = Plan::new(n, tables.steps.get(..length)?).ok()?;
+    if !has_length(method, n, length as u64) {
         return None;
     }
-    let left = trimmed_length(n, &tables.steps, length, &mut tables.trimmed)?;
-    if !is_plan(n, &tables.trimmed, left) {
-        return None;
-    }
+    let left = trim(&plan, trimmed).ok()?;
+    Plan::new(n, trimmed.get(..left)?).ok()?;
     Some(left < length)
 }
 
-// All exponents by one method.
-fn try_all(method: Method, tables: &mut Tables, tally: &mut Tally) {
-    for n in 1..TOP + 1 {
-        match try_one(method, n, tables) {
-            Some(lost) => {
-                tally.planned = tally.planned.saturating_add(1);
-                if lost {
-                    tally.trimmed = tally.trimmed.saturating_add(1);
+fn main(rt: HostRuntime) -> io::Result<()> {
+    let mut tables = PlanTables::new();
+    let mut trimmed = [NO_STEP; MOST_STEPS];
+    let mut tally = Tally::default();
+    for method in METHODS {
+        for n in 1..=TOP {
+            match try_one(method, n, &mut tables, &mut trimmed) {
+                Some(lost) => {
+                    tally.planned += 1;
+                    tally.trimmed += u32::from(lost);
                 }
+                None => tally.faults += 1,
             }
-            None => tally.faults = tally.faults.saturating_add(1),
         }
     }
-}
-
-fn main(rt: HostRuntime) -> io::Result<()> {
-    let none = Step {
-        j: 0,
-        k: 0,
-        value: 0,
-    };
-    let mut tables = Tables {
-        steps: [none; MOST_STEPS],
-        trimmed: [none; MOST_STEPS],
-        parents: [0; PARENTS],
-    };
-    let mut tally = Tally {
-        planned: 0,
-        faults: 0,
-        trimmed: 0,
-    };
-    try_all(Method::LeftToRight, &mut tables, &mut tally);
-    try_all(Method::RightToLeft, &mut tables, &mut tally);
-    try_all(Method::Factor, &mut tables, &mut tally);
-    try_all(Method::Tree, &mut tables, &mut tally);
-    for width in 1..6 {
-        try_all(Method::Digits(width), &mut tables, &mut tally);
-    }
-    let planned = tally.planned;
-    let faults = tally.faults;
-    println!(rt;
-        "{planned} plans admitted, of their length, and admitted again when trimmed; {faults} faults"
-    )?;
-    let trimmed = tally.trimmed;
-    println!(rt; "{trimmed} plans had idle steps")
+    println!(rt; "{tally}")
 }

@@ -1,39 +1,43 @@
 //! The steps of a path of the tree.
-ghost use Rattle.std.specs.Prelude.{◌≡◌, ◌≤◌, [], ◌++◌, length, drop};
-ghost use Rattle.power_tree.specs.Tree.{turned, summand_in, steps_of};
+ghost use Rattle.std.specs.Prelude.{◌≡◌, ◌<◌, ◌≤◌, length};
+ghost use Rattle.std.proofs.lemmas.List.Edits.{sets};
+ghost use Rattle.power_tree.specs.Tree.{summand_in, steps_of};
 
-use plans::Step;
+use plans::{MOST_STEPS, Step};
 
-// Where the number stands on a path from 1 to u that makes x with u.
+// On a path from u down to 1, the place of the number that makes x with u, counted from 0 at 1.
 fn summand_place(path: &[u16], u: u16, x: u16) -> usize
     ensures within { result ≤ length path.now }
-    ensures place { result ≡ summand_in u x (turned path.now []) }
+    ensures place { result ≡ summand_in u x path.now }
 {
-    for at in (0..path.len()).rev() {
-        if u as usize + path[at] as usize == x as usize {
-            return at;
-        }
-    }
-    0
+    let makes_x = |a: &u16| usize::from(u) + usize::from(*a) == usize::from(x);
+    let Some(from_top) = path.iter().position(makes_x) else {
+        return 0;
+    };
+    path.len() - 1 - from_top
 }
 
-// Writes the steps of a path from 1 on to the first places of the table, and answers how many they are.
-pub(crate) fn write_steps(path: &[u16], table: &mut [Step]) -> usize
-    requires some { 1 ≤ length path.now }
+// Writes the steps of a path down to 1 into the first places: those of the path below its first number, and then the step to that number.
+// Answers how many they are.
+pub(crate) fn write_steps(path: &[u16], places: &mut [Step; MOST_STEPS]) -> usize
     requires short { length path.now ≤ 128 }
-    requires places { length path.now ≤ length table.old }
-    ensures count { result ≡ length (steps_of (turned path.now [])) }
-    ensures after { table.new ≡ steps_of (turned path.now []) ++ drop (length (steps_of (turned path.now []))) table.old }
+    ensures within { result < 128 }
+    ensures count { result ≡ length (steps_of path.now) }
+    ensures after { places.new ≡ sets places.old 0 (steps_of path.now) }
 {
-    for i in 1..path.len() {
-        let u = path[i - 1];
-        let x = path[i];
-        let k = summand_place(&path[..i], u, x);
-        table[i - 1] = Step {
-            j: (i - 1) as u16,
-            k: k as u16,
-            value: x as u64,
-        };
-    }
-    path.len() - 1
+    let [x, below @ ..] = path else {
+        return 0;
+    };
+    let [u, ..] = below else {
+        return 0;
+    };
+    let at = write_steps(below, places);
+    let j = below.len() - 1;
+    let k = summand_place(below, *u, *x);
+    places[at] = Step {
+        j: j as u16,
+        k: k as u16,
+        value: u64::from(*x),
+    };
+    at + 1
 }

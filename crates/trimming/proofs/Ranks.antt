@@ -25,6 +25,13 @@ module _ (kept : List ℕ) where
       (λ (e : has kept (i + 1) ≡ false). let r = rank_none i e in (omega arith, omega arith))
       (cases_Bool (has kept (i + 1)))
 
+  -- a value is kept exactly if its number is above that of the value before it
+  pub rank_rises : (i : ℕ) → rank kept i < rank kept (i + 1) → has kept (i + 1) ≡ true
+  rank_rises i h = ⊎_elim (λ (e : has kept (i + 1) ≡ true). e) (λ (e : has kept (i + 1) ≡ false). let r = rank_none i e in absurd (omega arith)) (cases_Bool (has kept (i + 1)))
+
+  pub rank_stays : (i : ℕ) → rank kept (i + 1) ≤ rank kept i → has kept (i + 1) ≡ false
+  rank_stays i h = ⊎_elim (λ (e : has kept (i + 1) ≡ true). let r = rank_one i e in absurd (omega arith)) (λ (e : has kept (i + 1) ≡ false). e) (cases_Bool (has kept (i + 1)))
+
   pub rank_le : (i : ℕ) → rank kept i ≤ i
   rank_le zero = omega arith
   rank_le (suc i) = let e : suc i ≡ i + 1 = omega arith in omega (arith, rank_le i, (rank_step i).1, ap (rank kept) e)

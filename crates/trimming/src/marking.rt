@@ -1,22 +1,20 @@
 //! Which values of a plan are needed, and their numbers among the needed ones.
 ghost use Rattle.std.specs.Prelude.{◌≡◌, ℕ, ◌<◌, ◌≤◌, false, length, slice_index, slice_index_or};
-ghost use Rattle.plans.specs.Chain.{Cites};
 ghost use Rattle.trimming.specs.Needed.{needed, needed_of};
 ghost use Rattle.trimming.specs.Trim.{rank};
 
-use plans::{MOST_VALUES, Step};
+use arrayvec::ArrayVec;
+use plans::{MOST_VALUES, Plan};
 
 // Which of the values a_0 to a_r are needed.
-pub(crate) fn needed_marks(steps: &[Step]) -> [bool; MOST_VALUES]
-    requires short { length steps.now ≤ 128 }
-    requires cites { Cites steps.now }
-    ensures marked { (m : ℕ) → m < 129 → slice_index_or result m false ≡ needed steps.now m }
+fn needed_marks(plan: &Plan<'_>) -> [bool; MOST_VALUES]
+    ensures marked { (m : ℕ) → m < 129 → slice_index_or result m false ≡ needed plan.now.steps.now m }
 {
+    let steps = plan.steps();
     let mut marks = [false; MOST_VALUES];
     marks[steps.len()] = true;
-    for i in (0..steps.len()).rev() {
+    for (i, step) in steps.iter().enumerate().rev() {
         if marks[i + 1] {
-            let step = steps[i];
             marks[usize::from(step.j)] = true;
             marks[usize::from(step.k)] = true;
         }
@@ -24,15 +22,18 @@ pub(crate) fn needed_marks(steps: &[Step]) -> [bool; MOST_VALUES]
     marks
 }
 
-// The new numbers of the values.
-pub(crate) fn new_numbers(steps: &[Step], marks: &[bool; MOST_VALUES]) -> [u16; MOST_VALUES]
-    requires short { length steps.now ≤ 128 }
-    requires marked { (m : ℕ) → m < 129 → slice_index_or marks.now m false ≡ needed steps.now m }
-    ensures numbered { (m : ℕ) → m ≤ length steps.now → slice_index result m ≡ rank (needed_of steps.now) m }
+// The new numbers of the values: of each, how many of the values from a_1 up to it are needed.
+pub(crate) fn new_numbers(plan: &Plan<'_>) -> ArrayVec<u16, MOST_VALUES>
+    ensures long { length result.items ≡ 129 }
+    ensures numbered { (m : ℕ) → m ≤ length plan.now.steps.now → slice_index result.items m ≡ rank (needed_of plan.now.steps.now) m }
 {
-    let mut numbers = [0; MOST_VALUES];
-    for i in 0..steps.len() {
-        numbers[i + 1] = numbers[i] + u16::from(marks[i + 1]);
+    let marks = needed_marks(plan);
+    let mut count = 0;
+    let mut numbers = ArrayVec::new();
+    numbers.push(count);
+    for mark in &marks[1..] {
+        count += u16::from(*mark);
+        numbers.push(count);
     }
     numbers
 }

@@ -5,7 +5,7 @@ ghost use Rattle.planning.specs.Planning.{written};
 ghost use Rattle.trimming.specs.Needed.{NeededLaw};
 ghost use Rattle.trimming.specs.Trim.{trimmed, trim_answer};
 
-use crate::marking::{needed_marks, new_numbers};
+use crate::marking::new_numbers;
 use plans::{Plan, Step};
 use refusals::Refusal;
 
@@ -18,23 +18,21 @@ pub fn trim(plan: &Plan<'_>, table: &mut [Step]) -> Result<usize, Refusal>
     ensures chain { IfOk result (λ l. Chain plan.now.exponent (take l table.new)) }
     ensures again { trimmed (trimmed plan.now.steps.now) ≡ trimmed plan.now.steps.now }
 {
+    let all = new_numbers(plan);
+    let numbers = all.as_slice();
     let steps = plan.steps();
-    let marks = needed_marks(steps);
-    let numbers = new_numbers(steps, &marks);
     let len = usize::from(numbers[steps.len()]);
     if table.len() < len {
         return Err(Refusal::TableShort(len as u64));
     }
-    let mut at = 0;
-    for i in 0..steps.len() {
-        if marks[i + 1] {
-            let step = steps[i];
-            table[at] = Step {
+    for (i, step) in steps.iter().enumerate() {
+        let at = numbers[i];
+        if at < numbers[i + 1] {
+            table[usize::from(at)] = Step {
                 j: numbers[usize::from(step.j)],
                 k: numbers[usize::from(step.k)],
                 value: step.value,
             };
-            at += 1;
         }
     }
     Ok(len)

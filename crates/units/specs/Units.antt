@@ -1,5 +1,5 @@
 -- What a unit means: its cells, the allowance left, the records it keeps; and what each call does to them. Assumes nothing.
-use Rattle.std.specs.Prelude.{◌≡◌, ℕ, ◌-◌, Bool, true, false, cond, List, [], ◌∷◌, ◌++◌, length, is_some, Some, None, Ok, Err, Option, Result, nat_lt, slice_index_or, slice_set}
+use Rattle.std.specs.Prelude.{◌≡◌, ℕ, ◌-◌, true, cond, List, [], ◌∷◌, ◌++◌, length, is_some, Some, None, Ok, Err, Option, Result, nat_lt, slice_index_or, slice_set}
 use Rattle.std.specs.Option.{option_map}
 use Rattle.refusals.specs.declared.refusal.Refusal.{Refusal}
 use Rattle.refusals.specs.declared.refusal.Refusal.TheVariants.{NotNative, NoSuchCell, CellEmpty, AllowanceSpent}
@@ -13,24 +13,23 @@ pub record State (V : Type 0) : Type 0 where
   pub left : ℕ
   pub log : Option (List Record)
 
--- whether a cell holds a value
-abbrev pub filled : {V : Type 0} → Option V → Bool
-filled None = false
-filled (Some v) = true
-
 -- what two cells give together, if both hold a value
 abbrev pub both : {V : Type 0} → (V → V → V) → Option V → Option V → Option V
 both f None y = None
 both f (Some v) None = None
 both f (Some v) (Some w) = Some (f v w)
 
+-- the fault that none of so many cells has number c, if none has
+abbrev pub outside : ℕ → ℕ → Option Refusal
+outside cells c = unless (nat_lt c cells) (NoSuchCell c)
+
 -- the fault that no cell has number c, if none has
 abbrev pub no_cell : {V : Type 0} → State V → ℕ → Option Refusal
-no_cell s c = unless (nat_lt c (length s.cells)) (NoSuchCell c)
+no_cell s c = outside (length s.cells) c
 
 -- the fault that cell c is empty, if it is
 abbrev pub no_value : {V : Type 0} → State V → ℕ → Option Refusal
-no_value s c = unless (filled (slice_index_or s.cells c None)) (CellEmpty c)
+no_value s c = unless (is_some (slice_index_or s.cells c None)) (CellEmpty c)
 
 -- why a value v cannot be put into cell c
 abbrev pub load_fault : {V : Type 0} → Meaning V → State V → ℕ → V → Option Refusal

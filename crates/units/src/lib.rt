@@ -6,4 +6,4 @@ pub mod record;
 pub mod unit;
 
 pub use record::Record;
-pub use unit::Unit;
+pub use unit::{Unit, check_cell};

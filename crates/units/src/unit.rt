@@ -1,10 +1,20 @@
 //! The interface of a unit.
 ghost use Rattle.std.specs.Prelude.{◌≡◌, ◌≤◌, length};
-ghost use Rattle.refusals.specs.Faults.{Unchanged};
-ghost use Rattle.units.specs.Units.{State, AllNative, SameShape, load_answer, load_after, reading, multiply_answer, multiply_after};
+ghost use Rattle.refusals.specs.Faults.{verdict, Unchanged};
+ghost use Rattle.units.specs.Units.{State, AllNative, SameShape, outside, load_answer, load_after, reading, multiply_answer, multiply_after};
 
 use kinds::Kind;
 use refusals::Refusal;
+
+/// Refuses the number of a cell unless one of so many cells has it.
+pub fn check_cell(cells: u8, cell: u8) -> Result<(), Refusal>
+    ensures value { result ≡ verdict (outside cells cell) }
+{
+    if cell >= cells {
+        return Err(Refusal::NoSuchCell(u64::from(cell)));
+    }
+    Ok(())
+}
 
 /// A unit: at most 255 cells that hold native values of its kind, an allowance of multiplications, and perhaps records of those made.
 /// The kind, the number of cells and whether records are kept never change.
@@ -44,9 +54,7 @@ pub trait Unit: Kind {
     fn check_load(&self, cell: u8, v: Self::Value) -> Result<(), Refusal>
         ensures value { result ≡ load_answer (Self.Kind.kind self.now) (state self.now) cell v }
     {
-        if cell >= self.cells() {
-            return Err(Refusal::NoSuchCell(u64::from(cell)));
-        }
+        check_cell(self.cells(), cell)?;
         if !self.is_native(v) {
             return Err(Refusal::NotNative);
         }
@@ -58,15 +66,9 @@ pub trait Unit: Kind {
         ensures value { result ≡ multiply_answer (state self.now) to a b }
     {
         let cells = self.cells();
-        if to >= cells {
-            return Err(Refusal::NoSuchCell(u64::from(to)));
-        }
-        if a >= cells {
-            return Err(Refusal::NoSuchCell(u64::from(a)));
-        }
-        if b >= cells {
-            return Err(Refusal::NoSuchCell(u64::from(b)));
-        }
+        check_cell(cells, to)?;
+        check_cell(cells, a)?;
+        check_cell(cells, b)?;
         self.read(a)?;
         self.read(b)?;
         if self.allowance() == 0 {

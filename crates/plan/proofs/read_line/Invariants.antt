@@ -1,5 +1,8 @@
-use Rattle.std.proofs.Common.{◌≤◌, length}
+use Rattle.std.proofs.Common.{◌-◌, ◌≤◌, length}
 use Rattle.plan.proofs.read_line.Given as goal
 
-abbrev pub invariant-loop : goal.invariant-loop
-invariant-loop g l = l.have ≤ length l.buffer
+abbrev pub invariant-loop-have : goal.invariant-loop-have
+invariant-loop-have g l = l.have ≤ length l.buffer
+
+abbrev pub decreases-loop-have : goal.decreases-loop-have
+decreases-loop-have g l = length l.buffer - l.have

@@ -6,6 +6,6 @@ use Rattle.bench_exports.proofs.longest.place_within.Goals as goal
 pub returns : goal.returns
 returns c =
     record {
-      value = placed_long c.args.counted c.args.cells _ _ (c.in_ok-admit.ensures.after.1 ∙ c.write_longest.ensures)
-          (c.in_ok-admit.ensures.answer ∙ ap (admission 129) (sym c.in_ok-admit.ensures.after.1)) c.place.ensures.answer;
+      value = placed_long c.args.counted c.args.cells _ _ (c.in_ok-plan.ensures.plan.1 ∙ c.write_longest.ensures)
+          (sym c.in_ok-plan.ensures.answer ∙ ap (admission 129) (sym c.in_ok-plan.ensures.plan.1)) c.place.ensures.answer;
     }

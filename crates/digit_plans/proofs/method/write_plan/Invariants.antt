@@ -1,4 +1,4 @@
-use Rattle.std.proofs.Common.{◌+◌, length}
+use Rattle.std.proofs.Common.{◌≡◌, ◌+◌, length}
 use lib.Seq.{sets}
 use Rattle.digit_plans.specs.Digits.{digits_from}
 use Rattle.digit_plans.proofs.DigitLoop.{Turning}
@@ -6,6 +6,7 @@ use Rattle.digit_plans.proofs.method.write_plan.Given as goal
 
 abbrev pub invariant-loop-place : goal.invariant-loop-place
 invariant-loop-place l =
-    Turning l.width l.n l.place l.table l.len l.from l.value
-    (sets l.initial.table l.initial.len (digits_from l.width l.n l.below l.initial.len l.initial.from l.initial.value))
-    (l.initial.len + length (digits_from l.width l.n l.below l.initial.len l.initial.from l.initial.value))
+    (l.steps.table.ghost_name ≡ l.initial.steps.table.ghost_name)
+    × Turning l.fn.width.bits l.n l.place l.steps.table.now l.steps.len l.last.number l.last.value
+    (sets l.initial.steps.table.now l.initial.steps.len (digits_from l.fn.width.bits l.n l.below l.initial.steps.len l.initial.last.number l.initial.last.value))
+    (l.initial.steps.len + length (digits_from l.fn.width.bits l.n l.below l.initial.steps.len l.initial.last.number l.initial.last.value))

@@ -1,20 +1,30 @@
-use Rattle.std.proofs.Common.{arith}
-use Rattle.digit_plans.proofs.Doubling.{twice_fits, doubling_low, doubling_high, doubling_done}
+use Rattle.std.proofs.Common.{ap, ◌∙◌, arith}
+use Rattle.planning.specs.declared.steps.StepWriter.{StepWriter}
+use Rattle.planning.proofs.Writing.{table_of, len_of, number_of, value_of, added}
+use Rattle.digit_plans.proofs.Doubling.{doubling_low, doubling_high, doubling_done}
 use Rattle.digit_plans.proofs.parts.write_doubles.Goals as goal
-use Rattle.digit_plans.proofs.parts.write_doubles.Goals.{then-v-m, else-v-m}
+use Rattle.digit_plans.proofs.parts.write_doubles.Goals.{then-twice-m, else-twice-m}
 
-pub overflow_add-v : goal.overflow_add-v
-overflow_add-v c = omega (arith, twice_fits c.loop-i-test.true c.requires.high c.requires.room c.loop-i.invariant c.requires.bounded)
-
-pub loop-i-preserved : goal.loop-i-preserved
-loop-i-preserved c =
+pub loop-bit-preserved : goal.loop-bit-preserved
+loop-bit-preserved c =
+    let g = c.loop-bit.invariant in
+    let more = c.loop-bit-test.true in
     let m = c.digit_count-m.ensures in
-    elim c.if-v-m.branch [
-      | then-v-m w ↦ doubling_low c.loop-i-test.true c.requires.high c.requires.room c.loop-i.invariant _ _ _ w.table-is w.len-is w.source-is (omega (arith, w.if-v-m.true)) (omega arith)
-      | else-v-m w ↦ doubling_high c.loop-i-test.true c.requires.high c.requires.room c.loop-i.invariant _ _ _ w.table-is w.len-is w.source-is (omega (arith, w.if-v-m.false))
+    elim c.if-twice-m.branch [
+      | then-twice-m w ↦
+          let e = w.listed-source.ensures in (
+            ap (λ (x : StepWriter). x.table.ghost_name) w.steps-is ∙ g.0,
+            doubling_low more g.1 _ _ _ _ (ap table_of w.steps-is) (ap len_of w.steps-is) (ap number_of w.source-is ∙ e.number) (ap value_of w.source-is ∙ e.value) (omega (arith, w.if-twice-m.true, m.is)),
+          )
+      | else-twice-m w ↦
+          let e = added w.unwrap-source.ensures w.add.ensures.written w.add.ensures.made in (
+            ap (λ (x : StepWriter). x.table.ghost_name) w.steps-is ∙ w.add.ensures.same_table ∙ g.0,
+            doubling_high more g.1 _ _ _ _ (ap table_of w.steps-is ∙ e.table) (ap len_of w.steps-is ∙ e.len) (ap number_of w.source-is ∙ e.number ∙ e.len) (ap value_of w.source-is ∙ e.value) (omega (arith, w.if-twice-m.false, m.is)),
+          )
     ]
 
 pub returns : goal.returns
 returns c =
-    let d = doubling_done c.loop-i-test.false c.loop-i.invariant in
-    record { count = d.0; within = omega arith; after = d.1 }
+    let g = c.loop-bit.invariant in
+    let d = doubling_done c.args.width.low c.requires.positive c.loop-bit-test.false g.1 in
+    record { same_table = g.0; count = d.count; within = omega (arith, g.1.most); after = d.after; number = d.number; value = d.made }

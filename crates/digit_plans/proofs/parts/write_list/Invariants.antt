@@ -1,7 +1,12 @@
-use Rattle.std.proofs.Common.{◌≡◌, ◌-◌}
+use Rattle.std.proofs.Common.{◌≡◌, ◌+◌, ◌-◌}
 use lib.Seq.{sets}
 use Rattle.digit_plans.specs.Digits.{count_from}
 use Rattle.digit_plans.proofs.parts.write_list.Given as goal
 
-abbrev pub invariant-loop-i : goal.invariant-loop-i
-invariant-loop-i l = sets l.table l.i (count_from (l.len - l.i) l.i) ≡ sets l.initial.table 0 (count_from l.len 0)
+abbrev pub invariant-loop-value : goal.invariant-loop-value
+invariant-loop-value l =
+    (l.steps.table.ghost_name ≡ l.initial.steps.table.ghost_name)
+    × (l.at.number ≡ l.steps.len)
+    × (l.at.value ≡ l._value)
+    × (l.steps.len + 1 ≡ l._value)
+    × (sets l.steps.table.now l.steps.len (count_from (l.last - 1 - l.steps.len) l.steps.len) ≡ sets l.initial.steps.table.now 0 (count_from (l.last - 1) 0))

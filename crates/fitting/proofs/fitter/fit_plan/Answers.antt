@@ -17,38 +17,38 @@ returns-in_err-length g c =
     let room : length c.args.table.now ≡ 128 = omega arith in
     trim_never plan.exponent plan.steps.now (chain_of_lem plan) (length c.args.table.now) c.in_err-length.field-0.0 room c.in_err-length.ensures.answer
 
-pub returns-in_err-admit : goal.returns-in_err-admit
-returns-in_err-admit g c =
+pub returns-in_err-short : goal.returns-in_err-short
+returns-in_err-short g c =
     let plan = c.args.plan.now in
     let room : length c.args.table.now ≡ 128 = omega arith in
     let told = c.in_ok-length.ensures in
     let k : ℕ = c.in_ok-length.length in
-    let part : take (k - 0) c.trim.new.table ≡ trimmed plan.steps.now =
+    let part : take k c.trim.new.table ≡ trimmed plan.steps.now =
     front_is plan.exponent plan.steps.now (chain_of_lem plan) k c.args.table.now c.trim.new.table
     (trim_length plan.exponent plan.steps.now (chain_of_lem plan) (length c.args.table.now) k room told.answer) told.after in
-    admit_never plan.exponent plan.steps.now (chain_of_lem plan) c.exponent.result (take (k - 0) c.trim.new.table) c.in_err-admit.field-0.0 c.exponent.ensures part c.in_err-admit.ensures.exactly
+    admit_never plan.exponent plan.steps.now (chain_of_lem plan) c.exponent.result (take k c.trim.new.table) c.exponent.ensures part c.in_err-short.ensures.exactly
 
 pub returns-in_err-place : goal.returns-in_err-place
 returns-in_err-place g c =
     let room : length c.args.cells.now ≡ 129 = omega arith in
-    place_never c.admit.new.self.steps.now c.measure-size.result.need (length c.args.cells.now) c.in_err-place.field-0.0
+    place_never c.in_ok-short.short.steps.now c.measure-size.result.need (length c.args.cells.now) c.in_err-place.field-0.0
     (ap (λ z. z.need) c.measure-size.ensures.value) room c.in_err-place.ensures.answer
 
 pub rehearse-requires : goal.rehearse-requires
 rehearse-requires g c =
-    let short : List Step = c.admit.new.self.steps.now in
+    let short : List Step = c.in_ok-short.short.steps.now in
     start_is short c.place.new.places c.in_ok-place.ensures.after.0
 
 pub returns-in_err-rehearse : goal.returns-in_err-rehearse
 returns-in_err-rehearse g c =
     let plan = c.args.plan.now in
     let steps : List Step = plan.steps.now in
-    let short : List Step = c.admit.new.self.steps.now in
+    let short : List Step = c.in_ok-short.short.steps.now in
     let room : length c.args.table.now ≡ 128 = omega arith in
     let told = c.in_ok-length.ensures in
     let k : ℕ = c.in_ok-length.length in
     let is : short ≡ trimmed steps =
-    c.in_ok-admit.ensures.after.1 ∙ front_is plan.exponent steps (chain_of_lem plan) k c.args.table.now c.trim.new.table
+    c.in_ok-short.ensures.plan.1 ∙ front_is plan.exponent steps (chain_of_lem plan) k c.args.table.now c.trim.new.table
     (trim_length plan.exponent steps (chain_of_lem plan) (length c.args.table.now) k room told.answer) told.after in
     let u = c.args.unit.now in
     let m = g.U.Kind.kind u in
@@ -71,12 +71,12 @@ pub returns-in_err-power : goal.returns-in_err-power
 returns-in_err-power g c =
     let plan = c.args.plan.now in
     let steps : List Step = plan.steps.now in
-    let short : List Step = c.admit.new.self.steps.now in
+    let short : List Step = c.in_ok-short.short.steps.now in
     let room : length c.args.table.now ≡ 128 = omega arith in
     let told = c.in_ok-length.ensures in
     let k : ℕ = c.in_ok-length.length in
     let is : short ≡ trimmed steps =
-    c.in_ok-admit.ensures.after.1 ∙ front_is plan.exponent steps (chain_of_lem plan) k c.args.table.now c.trim.new.table
+    c.in_ok-short.ensures.plan.1 ∙ front_is plan.exponent steps (chain_of_lem plan) k c.args.table.now c.trim.new.table
     (trim_length plan.exponent steps (chain_of_lem plan) (length c.args.table.now) k room told.answer) told.after in
     let u = c.args.unit.now in
     let m = g.U.Kind.kind u in
@@ -85,7 +85,7 @@ returns-in_err-power g c =
     let e : Refusal = c.in_err-power.field-0.0 in
     let out = exit_is c.from_residual-in_err-power.result e c.from_residual-in_err-power.ensures.1 in
     let fine : rehearsal_fault short ≡ None = verdict_none (rehearsal_fault short) c.in_ok-rehearse.ensures.answer in
-    let stopped : run_fault m s short x ≡ Some e = answer_some (run_fault m s short x) e (power m x c.admit.new.self.exponent) c.in_err-power.ensures.answer in
+    let stopped : run_fault m s short x ≡ Some e = answer_some (run_fault m s short x) e (power m x c.in_ok-short.short.exponent) c.in_err-power.ensures.answer in
     record {
       answer = out ∙ not_run steps short is m s plan.exponent x e fine stopped;
       after = unit_kept steps short is m s plan.exponent x c.from_residual-in_err-power.result e (g.U.Unit.state c.run_on_card.new.unit) out c.in_err-power.ensures.after;
@@ -101,15 +101,15 @@ pub returns : goal.returns
 returns g c =
     let plan = c.args.plan.now in
     let steps : List Step = plan.steps.now in
-    let short : List Step = c.admit.new.self.steps.now in
+    let short : List Step = c.in_ok-short.short.steps.now in
     let room : length c.args.table.now ≡ 128 = omega arith in
     let told = c.in_ok-length.ensures in
     let k : ℕ = c.in_ok-length.length in
-    let held = c.in_ok-admit.ensures.after in
+    let held = c.in_ok-short.ensures.plan in
     let is : short ≡ trimmed steps =
     held.1 ∙ front_is plan.exponent steps (chain_of_lem plan) k c.args.table.now c.trim.new.table
     (trim_length plan.exponent steps (chain_of_lem plan) (length c.args.table.now) k room told.answer) told.after in
-    let size : c.admit.new.self.exponent ≡ plan.exponent = held.0 ∙ c.exponent.ensures in
+    let size : c.in_ok-short.short.exponent ≡ plan.exponent = held.0 ∙ c.exponent.ensures in
     let u = c.args.unit.now in
     let m = g.U.Kind.kind u in
     let s = g.U.Unit.state u in
@@ -118,13 +118,13 @@ returns g c =
     let ran = c.in_ok-power.ensures in
     let t = g.U.Unit.state c.run_on_card.new.unit in
     let fine : rehearsal_fault short ≡ None = verdict_none (rehearsal_fault short) c.in_ok-rehearse.ensures.answer in
-    let able : run_fault m s short x ≡ None = answer_none (run_fault m s short x) y (power m x c.admit.new.self.exponent) ran.answer in
-    let value = answer_value (run_fault m s short x) y (power m x c.admit.new.self.exponent) ran.answer ∙ ap (power m x) size in
+    let able : run_fault m s short x ≡ None = answer_none (run_fault m s short x) y (power m x c.in_ok-short.short.exponent) ran.answer in
+    let value = answer_value (run_fault m s short x) y (power m x c.in_ok-short.short.exponent) ran.answer ∙ ap (power m x) size in
     let spent = ran.after.success.left in
     let left : c.allowance.result ≡ s.left - length short = omega (arith, spent, c.allowance.ensures.value) in
     record {
       answer = fits steps short is m s plan.exponent x c.measure.result c.measure-size.result y c.allowance.result fine able c.measure.ensures.value c.measure-size.ensures.value value left;
-      after = unit_run steps short is m s plan.exponent x c.admit.new.self.exponent y t size ran.after;
+      after = unit_run steps short is m s plan.exponent x c.in_ok-short.short.exponent y t size ran.after;
       table = told.after;
       cells = placed steps short is c.args.cells.now c.place.new.places c.in_ok-place.ensures.after;
       named = placed_cells steps short is c.args.cells.now c.place.new.places c.in_ok-place.ensures.cells;

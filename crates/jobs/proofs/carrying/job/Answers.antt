@@ -1,4 +1,4 @@
-use Rattle.std.proofs.Common.{◌≡◌, ◌-◌, ◌≤◌, List, length, take, Ok, Result, refl, ap, ◌∙◌, subst, rules}
+use Rattle.std.proofs.Common.{◌≡◌, ◌≤◌, List, length, take, Ok, Result, refl, ap, ◌∙◌, subst, rules}
 use Rattle.refusals.specs.declared.refusal.Refusal.{Refusal}
 use Rattle.refusals.proofs.Answered.{exit_is, unchanged_err}
 use Rattle.plans.specs.declared.step.Step.{Step}
@@ -6,13 +6,11 @@ use Rattle.sheets.specs.Reading.{read_sheet, counted, filled}
 use Rattle.runs.specs.Answers.{run_answer, Ran}
 use Rattle.jobs.specs.declared.job_refusal.JobRefusal.{JobRefusal}
 use Rattle.jobs.specs.declared.stage.Stage.TheVariants.{Admission, Running}
-use Rattle.jobs.specs.Jobs.{job_plan}
 use Rattle.jobs.proofs.Stages.{read_left, read_is, read_fits, on_ok, unread_answer, unread_after, stopped_answer, stopped_after, worked_answer, worked_after, as_asked, kept_on}
-use Rattle.jobs.proofs.Carried.{job_answered, jobbed}
 use Rattle.jobs.proofs.carrying.job.Goals as goal
 
-pub slice_bounds-admit-end : goal.slice_bounds-admit-end
-slice_bounds-admit-end g c =
+pub slice_bounds-new-end : goal.slice_bounds-new-end
+slice_bounds-new-end g c =
     let room = length c.args.table.now in
     let sheet : Result (List Step) Refusal = read_sheet c.new-reader.result.text.now room in
     let fits : c.in_ok-count.count ≤ length c.read.new.table =
@@ -35,16 +33,15 @@ returns-in_err-count g c =
     let on = c.in_err-count.ensures.value in
     let out = exit_is c.from_residual.result e c.from_residual.ensures.1 in
     record {
-      answer = job_answered m s n x sheet c.from_residual.result (out ∙ unread_answer sheet n c.read.result e said on (λ steps. run_answer m s n steps x));
-      after = jobbed m s n x (job_plan sheet n) s
-          (unread_after sheet n c.read.result e said on (s ≡ s) (λ steps. Ran m s n steps x (run_answer m s n steps x) s) refl);
+      answer = out ∙ unread_answer sheet n c.read.result e said on (λ steps. run_answer m s n steps x);
+      after = unread_after sheet n c.read.result e said on (s ≡ s) (λ steps. Ran m s n steps x (run_answer m s n steps x) s) refl;
       table = c.read.ensures.after ∙ ap (λ r. filled r table) same;
       refused = unchanged_err c.from_residual.result e u u out refl;
       same = refl;
     }
 
-pub returns-in_err-at_stage : goal.returns-in_err-at_stage
-returns-in_err-at_stage g c =
+pub returns-in_err-plan : goal.returns-in_err-plan
+returns-in_err-plan g c =
     let u = c.args.unit.now in
     let m = g.U.Kind.kind u in
     let s = g.U.Unit.state u in
@@ -54,21 +51,19 @@ returns-in_err-at_stage g c =
     let sheet : Result (List Step) Refusal = read_sheet c.args.text.now room in
     let own : Result (List Step) Refusal = read_sheet c.new-reader.result.text.now room in
     let same : own ≡ sheet = ap (λ t. read_sheet t.now room) c.new-reader.ensures.text in
-    let steps : List Step = take (c.in_ok-count.count - 0) c.read.new.table in
+    let steps : List Step = take c.in_ok-count.count c.read.new.table in
     let is : sheet ≡ Ok steps =
     read_is sheet own same c.args.table.now c.read.new.table c.read.result c.in_ok-count.count
     c.read.ensures.answer c.in_ok-count.ensures.value c.read.ensures.after in
-    let e : JobRefusal = c.in_err-at_stage.field-0.0 in
-    let on = c.in_err-at_stage.ensures.value in
-    let out = exit_is c.from_residual-in_err-at_stage.result e c.from_residual-in_err-at_stage.ensures.1 in
+    let e : JobRefusal = c.in_err-plan.field-0.0 in
+    let on = c.in_err-plan.ensures.value in
+    let out = exit_is c.from_residual-in_err-plan.result e c.from_residual-in_err-plan.ensures.1 in
     record {
-      answer = job_answered m s n x sheet c.from_residual-in_err-at_stage.result
-          (out ∙ stopped_answer sheet n steps is c.admit.result c.admit.ensures.answer e on (λ l. run_answer m s n l x));
-      after = jobbed m s n x (job_plan sheet n) s
-          (stopped_after sheet n steps is c.admit.result c.admit.ensures.answer e on (s ≡ s) (λ l. Ran m s n l x (run_answer m s n l x) s) refl);
+      answer = out ∙ stopped_answer sheet n steps is c.new.result c.new.ensures.answer e on (λ l. run_answer m s n l x);
+      after = stopped_after sheet n steps is c.new.result c.new.ensures.answer e on (s ≡ s) (λ l. Ran m s n l x (run_answer m s n l x) s) refl;
       table = read_left sheet own same c.args.table.now c.read.new.table c.read.result c.in_ok-count.count
           c.read.ensures.answer c.in_ok-count.ensures.value c.read.ensures.after;
-      refused = unchanged_err c.from_residual-in_err-at_stage.result e u u out refl;
+      refused = unchanged_err c.from_residual-in_err-plan.result e u u out refl;
       same = refl;
     }
 
@@ -83,27 +78,24 @@ returns g c =
     let sheet : Result (List Step) Refusal = read_sheet c.args.text.now room in
     let own : Result (List Step) Refusal = read_sheet c.new-reader.result.text.now room in
     let same : own ≡ sheet = ap (λ t. read_sheet t.now room) c.new-reader.ensures.text in
-    let steps : List Step = take (c.in_ok-count.count - 0) c.read.new.table in
+    let steps : List Step = take c.in_ok-count.count c.read.new.table in
     let is : sheet ≡ Ok steps =
     read_is sheet own same c.args.table.now c.read.new.table c.read.result c.in_ok-count.count
     c.read.ensures.answer c.in_ok-count.ensures.value c.read.ensures.after in
-    let on = c.in_ok-at_stage.ensures.value in
-    let held = on_ok Admission c.admit.result c.in_ok-at_stage.field-0
-    (λ _. (c.admit.new.self.exponent ≡ n) × (c.admit.new.self.steps.now ≡ steps)) (λ _. c.admit.new.self ≡ c.one-plan.result)
-    on c.admit.ensures.after in
+    let on = c.in_ok-plan.ensures.value in
+    let plan = c.in_ok-plan.plan in
+    let held = on_ok Admission c.new.result plan _ _ on c.new.ensures.plan in
     let r = c.run.result in
     let t = g.U.Unit.state c.run.new.unit in
     let ran : r ≡ run_answer m s n steps x =
-    as_asked (λ k l. r ≡ run_answer m s k l x) c.admit.new.self.exponent n c.admit.new.self.steps.now steps held.0 held.1 c.run.ensures.answer in
+    as_asked (λ k l. r ≡ run_answer m s k l x) plan.exponent n plan.steps.now steps held.0 held.1 c.run.ensures.answer in
     let left : Ran m s n steps x (run_answer m s n steps x) t =
     subst (λ z. Ran m s n steps x z t) ran
-    (as_asked (λ k l. Ran m s k l x r t) c.admit.new.self.exponent n c.admit.new.self.steps.now steps held.0 held.1 c.run.ensures.after) in
+    (as_asked (λ k l. Ran m s k l x r t) plan.exponent n plan.steps.now steps held.0 held.1 c.run.ensures.after) in
     record {
-      answer = job_answered m s n x sheet c.at_stage-3.result
-          (worked_answer sheet n steps is c.admit.result c.admit.ensures.answer c.in_ok-at_stage.field-0 on (λ l. run_answer m s n l x)
-          r c.at_stage-3.result ran c.at_stage-3.ensures.value);
-      after = jobbed m s n x (job_plan sheet n) t
-          (worked_after sheet n steps is c.admit.result c.admit.ensures.answer c.in_ok-at_stage.field-0 on (t ≡ s) (λ l. Ran m s n l x (run_answer m s n l x) t) left);
+      answer = worked_answer sheet n steps is c.new.result c.new.ensures.answer plan on (λ l. run_answer m s n l x)
+          r c.at_stage-3.result ran c.at_stage-3.ensures.value;
+      after = worked_after sheet n steps is c.new.result c.new.ensures.answer plan on (t ≡ s) (λ l. Ran m s n l x (run_answer m s n l x) t) left;
       table = read_left sheet own same c.args.table.now c.read.new.table c.read.result c.in_ok-count.count
           c.read.ensures.answer c.in_ok-count.ensures.value c.read.ensures.after;
       refused = kept_on Running r c.at_stage-3.result u c.run.new.unit c.at_stage-3.ensures.value c.run.ensures.refused;

@@ -1,10 +1,6 @@
 use Rattle.std.proofs.Common.{arith}
-use Rattle.std.proofs.lemmas.Bool.Decides.{nat_tests}
 use Rattle.methods.proofs.Responses.{small_refusal, respond_sheet, respond_refusal}
 use Rattle.methods.proofs.response.respond.Goals as goal
-
-pub returns-then-out-lt-MOST_BYTES : goal.returns-then-out-lt-MOST_BYTES
-returns-then-out-lt-MOST_BYTES c = record { answer = grind (arith, nat_tests); after = grind (arith, nat_tests) }
 
 pub write_refusal-requires : goal.write_refusal-requires
 write_refusal-requires c =

@@ -8,7 +8,7 @@ loop-t-init c = noted_none c.args.plan.now.steps.now
 
 pub loop-t-preserved : goal.loop-t-preserved
 loop-t-preserved c =
-    simp (c.note-in-loop-t.ensures, c.note.ensures, c.steps-step-items.ensures.steps)
+    simp (c.from.ensures, c.from-in-loop-t.ensures, c.steps-step-items.ensures.steps)
     (noted_more c.args.plan.now.steps.now c.loop-t.t c.loop-t.last c.loop-t.invariant)
 
 pub returns : goal.returns

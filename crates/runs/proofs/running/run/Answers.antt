@@ -1,4 +1,4 @@
-use Rattle.std.proofs.Common.{◌≡◌, ℕ, ◌+◌, ◌-◌, List, ◌++◌, length, take, drop, replicate, None, Ok, Err, Option, Result, sym, ap, ◌∙◌, arith}
+use Rattle.std.proofs.Common.{◌≡◌, ℕ, ◌+◌, ◌-◌, List, ◌++◌, length, take, drop, replicate, None, Ok, Err, Option, Result, refl, sym, ap, ◌∙◌, arith}
 use native.Mathlib.Nat.{sub-zero}
 use Rattle.refusals.specs.declared.refusal.Refusal.{Refusal}
 use Rattle.refusals.specs.Faults.{answer}
@@ -50,8 +50,8 @@ multiply_out-requires g c =
     let told = c.in_ok-check_run.ensures in
     begun (g.U.Kind.kind u) (g.U.Unit.state u) p.steps.now c.args.base p.exponent (take (c.len.result + 1 - 0) c.check_run.new.places)
     (chain_of_lem p) (supplied_by p.steps.now c.check_run.new.places c.len.result c.len.ensures.count told.named) (verdict_none (run_fault (g.U.Kind.kind u) (g.U.Unit.state u) p.steps.now c.args.base) told.answer)
-    (g.U.Kind.kind c.load.new.self) (g.U.Unit.state c.load.new.self) c.steps.result.now
-    c.load.ensures.same c.load.ensures.after c.steps.ensures.steps
+    (g.U.Kind.kind c.load.new.self) (g.U.Unit.state c.load.new.self) p.steps.now
+    c.load.ensures.same c.load.ensures.after refl
 
 pub returns-in_err-value : goal.returns-in_err-value
 returns-in_err-value g c =
@@ -61,8 +61,8 @@ returns-in_err-value g c =
     refused_is_answer c.in_err-value.field-0.0 (power (g.U.Kind.kind u) c.args.base p.exponent)
     (handed (g.U.Kind.kind u) (g.U.Unit.state u) p.steps.now c.args.base p.exponent (take (c.len.result + 1 - 0) c.check_run.new.places)
     (chain_of_lem p) (supplied_by p.steps.now c.check_run.new.places c.len.result c.len.ensures.count told.named) (verdict_none (run_fault (g.U.Kind.kind u) (g.U.Unit.state u) p.steps.now c.args.base) told.answer)
-    (g.U.Kind.kind c.load.new.self) (g.U.Unit.state c.load.new.self) c.steps.result.now
-    c.load.ensures.same c.load.ensures.after c.steps.ensures.steps (Err c.in_err-value.field-0.0) c.in_err-value.ensures.value)
+    (g.U.Kind.kind c.load.new.self) (g.U.Unit.state c.load.new.self) p.steps.now
+    c.load.ensures.same c.load.ensures.after refl (Err c.in_err-value.field-0.0) c.in_err-value.ensures.value)
 
 pub returns : goal.returns
 returns g c =
@@ -77,14 +77,14 @@ returns g c =
     let fine : run_fault m s p.steps.now x ≡ None = verdict_none (run_fault (g.U.Kind.kind u) (g.U.Unit.state u) p.steps.now c.args.base) told.answer in
     let ends = c.in_ok-value.ensures in
     let out : Ok c.in_ok-value.value ≡ Ok (power m x p.exponent) =
-    handed m s p.steps.now x p.exponent places (chain_of_lem p) on fine (g.U.Kind.kind c.load.new.self) (g.U.Unit.state c.load.new.self) c.steps.result.now
-    c.load.ensures.same c.load.ensures.after c.steps.ensures.steps (Ok c.in_ok-value.value) ends.value in
+    handed m s p.steps.now x p.exponent places (chain_of_lem p) on fine (g.U.Kind.kind c.load.new.self) (g.U.Unit.state c.load.new.self) p.steps.now
+    c.load.ensures.same c.load.ensures.after refl (Ok c.in_ok-value.value) ends.value in
     let value : c.in_ok-value.value ≡ power m x p.exponent = cc in
     record {
       answer = answered (run_fault m s p.steps.now x) c.in_ok-value.value (power m x p.exponent) fine value;
       after = success m s p.steps.now x p.exponent places (chain_of_lem p) on fine (laws_of g u) c.in_ok-value.value (g.U.Unit.state c.multiply_out.new.unit) value
-          (ended m s p.steps.now x p.exponent places (chain_of_lem p) on fine (g.U.Kind.kind c.load.new.self) (g.U.Unit.state c.load.new.self) c.steps.result.now
-          c.load.ensures.same c.load.ensures.after c.steps.ensures.steps (g.U.Unit.state c.multiply_out.new.unit) ends.after);
+          (ended m s p.steps.now x p.exponent places (chain_of_lem p) on fine (g.U.Kind.kind c.load.new.self) (g.U.Unit.state c.load.new.self) p.steps.now
+          c.load.ensures.same c.load.ensures.after refl (g.U.Unit.state c.multiply_out.new.unit) ends.after);
       refused = tt;
       same = ends.same ∙ c.load.ensures.same;
     }

@@ -1,22 +1,15 @@
-use Rattle.std.proofs.Common.{◌≡◌, length, arith, length-drop, length-take}
+use Rattle.std.proofs.Common.{◌≡◌, ◌+◌, length, ap, ◌∙◌, arith}
 use Rattle.plans.specs.Chain.{no_step}
 use Rattle.sheets.specs.Lines.{line_bytes}
 use Rattle.sheets.proofs.Writes.{wrote_more}
-use Rattle.sheets.proofs.Reread.{chain_writable, sheet_done}
+use Rattle.sheets.proofs.Reread.{length_line, chain_writable, sheet_done}
 use Rattle.sheets.proofs.write.write_sheet.Goals as goal
-
-pub write_line-requires : goal.write_line-requires
-write_line-requires c =
-    record {
-      room = simp (length-take, length-drop) (omega arith);
-      number = omega (arith, c.steps-steps.ensures.chain.short);
-      step = chain_writable _ _ c.steps-steps.ensures.chain c.loop-i.i c.loop-i-test.true;
-    }
 
 pub loop-i-preserved : goal.loop-i-preserved
 loop-i-preserved c =
-    let long : length c.write_line.new.out ≡ line_bytes = omega (arith, simp (length-take, length-drop) at c.write_line.auto.out) in
-    wrote_more c.steps-steps.result.now c.loop-i.i c.args.out.now c.loop-i.out c.write_line.new.out no_step c.loop-i-test.true c.loop-i.invariant.0 c.loop-i.invariant.1 c.write_line.ensures.after long
+    let e = c.copy_from_slice.ensures.after ∙ c.write_line.ensures in
+    let long : length c.copy_from_slice.new.self ≡ line_bytes = ap length e ∙ length_line (c.loop-i.i + 1) _ (omega (arith, c.steps-steps.ensures.chain.short)) (chain_writable _ _ c.steps-steps.ensures.chain c.loop-i.i c.loop-i-test.true) in
+    wrote_more c.steps-steps.result.now c.loop-i.i c.args.out.now c.loop-i.out c.copy_from_slice.new.self no_step c.loop-i-test.true c.loop-i.invariant.0 c.loop-i.invariant.1 e long
 
 pub returns : goal.returns
 returns c =

@@ -1,8 +1,7 @@
-use Rattle.std.proofs.Common.{◌≡◌, ◌+◌, length, set, is_some, sym, ap, ◌∙◌, arith}
+use Rattle.std.proofs.Common.{◌≡◌, length, set, is_some, sym, ap, ◌∙◌, arith}
 use Rattle.std.proofs.lemmas.List.{length-set}
 use Rattle.kinds.proofs.Powers.{Laws, powers_add}
-use Rattle.straight_runs.specs.Straight.{powers_of}
-use Rattle.straight_runs.proofs.Straight.{Holds, from_base, to_base, turn_some, turn_next, run_done, fault_foreign, fault_short, fault_none, answer_by, after_by}
+use Rattle.straight_runs.proofs.Straight.{holds_base, turn_some, turn_next, run_done, fault_foreign, fault_short, fault_none, answer_by, after_by}
 use Rattle.straight_runs.proofs.run.straight_run.Given as given
 use Rattle.straight_runs.proofs.run.straight_run.Goals as goal
 
@@ -34,6 +33,9 @@ returns-then-powers-wanted g c =
       powers = powers_add m (laws_of g c.args.kind.now);
     })
 
+pub loop-i-init : goal.loop-i-init
+loop-i-init g c = holds_base (g.K.Kind.kind c.args.kind.now) c.steps-steps.result.now c.args.base c.args.powers.now (omega arith)
+
 pub unwrap-requires : goal.unwrap-requires
 unwrap-requires g c =
     let k = c.args.kind.now in
@@ -42,10 +44,9 @@ unwrap-requires g c =
     let x = c.args.base in
     let was = c.args.powers.now in
     let now = c.loop-i.powers in
-    let f = from_base (λ z. Holds (powers_of m s z) (set was 0 x) now (c.loop-i.i + 1)) was x (omega arith) c.loop-i.invariant in
     ap is_some (c.product.ensures.value
     ∙ turn_some m (laws_of g k) x (sym c.if-not-is_native.ensures.value) _ s c.steps-steps.ensures.chain (set was 0 x) now c.loop-i.i _ _
-    c.loop-i-test.true f c.index-powers-step.is c.index-powers-step-in-loop-i.is)
+    c.loop-i-test.true c.loop-i.invariant (rw c.from.ensures at c.index-powers-from.is) (rw c.from-in-loop-i.ensures at c.index-powers-from-in-loop-i.is))
 
 pub loop-i-preserved : goal.loop-i-preserved
 loop-i-preserved g c =
@@ -57,10 +58,8 @@ loop-i-preserved g c =
     let now = c.loop-i.powers in
     let i = c.loop-i.i in
     let v = c.unwrap.result in
-    let f = from_base (λ z. Holds (powers_of m s z) (set was 0 x) now (i + 1)) was x (omega arith) c.loop-i.invariant in
-    to_base (λ z. Holds (powers_of m s z) (set was 0 x) (set now (i + 1) v) (i + 1 + 1)) was x (omega arith)
-    (turn_next m (laws_of g k) x (sym c.if-not-is_native.ensures.value) _ s c.steps-steps.ensures.chain (set was 0 x) now i _ _ v
-    c.loop-i-test.true (omega (arith, length-set was 0 x)) f c.index-powers-step.is c.index-powers-step-in-loop-i.is (sym c.product.ensures.value ∙ c.unwrap.ensures))
+    turn_next m (laws_of g k) x (sym c.if-not-is_native.ensures.value) _ s c.steps-steps.ensures.chain (set was 0 x) now i _ _ v
+    c.loop-i-test.true (omega (arith, length-set was 0 x)) c.loop-i.invariant (rw c.from.ensures at c.index-powers-from.is) (rw c.from-in-loop-i.ensures at c.index-powers-from-in-loop-i.is) (sym c.product.ensures.value ∙ c.unwrap.ensures)
 
 pub returns : goal.returns
 returns g c =
@@ -72,12 +71,11 @@ returns g c =
     let now = c.loop-i.powers in
     let end : c.loop-i.i ≡ length s = omega arith in
     let native = sym c.if-not-is_native.ensures.value in
-    let f = from_base (λ z. Holds (powers_of m s z) (set was 0 x) now (c.loop-i.i + 1)) was x (omega arith) c.loop-i.invariant in
     let none = fault_none m s x (length was) native c.if-powers-wanted.false in
     simp (← c.steps-steps.ensures.steps)
     (record {
       answer = answer_by m s x (length was) _ none;
-      after = run_done m (laws_of g k) x native _ s c.steps-steps.ensures.chain was now c.loop-i.i end f
+      after = run_done m (laws_of g k) x native _ s c.steps-steps.ensures.chain was now c.loop-i.i end c.loop-i.invariant
           ∙ after_by m s x was _ none;
       powers = powers_add m (laws_of g k);
     })

@@ -1,34 +1,16 @@
-use Rattle.std.proofs.Common.{◌≡◌, ℕ, ◌+◌, ◌-◌, ◌<◌, List, ◌∷◌, length, drop, set, sym, ap, ◌∙◌, inr, arith, length-set}
-use lib.Seq.{drop-length}
-use Rattle.std.proofs.lemmas.List.{drop-set}
-use Rattle.power_tree.specs.Growth.{path_onto}
-use Rattle.power_tree.proofs.Turns.{onto_step, onto_stop}
+use Rattle.std.proofs.Common.{◌≡◌, ℕ, length, slice_index, sym, ap, ◌∙◌, arith}
+use Rattle.std.proofs.lemmas.Bool.{eqb-false}
+use Rattle.std.specs.Option.{unwrap_or}
+use Rattle.tree_plans.proofs.Climbing.{climbing_more}
 use Rattle.tree_plans.proofs.growing.climb.Goals as goal
 
-pub loop-at-init : goal.loop-at-init
-loop-at-init c = (
-  omega arith,
-  omega arith,
-  ap (λ (o : List ℕ). path_onto (length c.args.path.now) c.args.parents.now c.args.u o) (drop-length c.args.path.now),
-)
-
-pub loop-at-preserved : goal.loop-at-preserved
-loop-at-preserved c =
+pub loop-v-preserved : goal.loop-v-preserved
+loop-v-preserved c =
     let ps = c.args.parents.now in
-    let n = c.loop-at.at in
-    let v = c.loop-at.v in
-    let lt : n - 1 < length c.loop-at.path = omega arith in
-    let same : n - 1 + 1 ≡ n = omega arith in
-    let d : drop (n - 1) (set c.loop-at.path (n - 1) v) ≡ v ∷ drop n c.loop-at.path = drop-set c.loop-at.path (n - 1) v lt ∙ ap (λ (k : ℕ). v ∷ drop k c.loop-at.path) same in
-    let e = onto_step n v ps (drop n c.loop-at.path) c.loop-at-test.true c.if-v-gt0.true in
-    let i = c.loop-at.invariant.2 in
-    let r = c.parent_of-v.ensures in
-    (simp length-set (omega arith), omega arith, cc)
-
-pub returns-else-v-gt0 : goal.returns-else-v-gt0
-returns-else-v-gt0 c =
-    let e : c.loop-at.v ≡ 0 = omega arith in
+    let next : c.unwrap_or-v.result ≡ slice_index ps c.loop-v.v =
+    c.unwrap_or-v.ensures ∙ ap (λ o. unwrap_or o 0) c.copied.ensures ∙ c.get.ensures.lookup.4 (omega arith) 0 ∙ ap (λ (i : ℕ). slice_index ps i) c.from.ensures in
+    let room : length c.loop-v.path.items ≡ 19 → ⊥ = eqb-false _ _ (sym c.is_full.ensures.value ∙ c.if-not-is_full.true) in
     record {
-      within = omega arith;
-      path = sym (onto_stop c.loop-at.at c.loop-at.v c.args.parents.now (drop c.loop-at.at c.loop-at.path) (inr e)) ∙ c.loop-at.invariant.2;
+      small = omega arith;
+      climbing = climbing_more ps c.args.u c.loop-v.v _ c.loop-v.path.items _ (omega arith) c.loop-v-test.true c.push.ensures.items next c.loop-v.invariant.climbing;
     }

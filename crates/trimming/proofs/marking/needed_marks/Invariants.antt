@@ -1,7 +1,10 @@
-use Rattle.std.proofs.Common.{[], ◌∷◌, length}
-use Rattle.trimming.proofs.Needing.{after}
-use Rattle.trimming.proofs.Marks.{Marked}
+use Rattle.std.proofs.Common.{◌≡◌}
+use Rattle.trimming.proofs.Marks.{Marking}
 use Rattle.trimming.proofs.marking.needed_marks.Given as goal
 
 abbrev pub invariant-loop-i : goal.invariant-loop-i
-invariant-loop-i l = Marked l.marks (after (length l.steps ∷ []) l.steps l.i)
+invariant-loop-i l =
+    record {
+      from_first : l.i-iterator.iter.count ≡ 0;
+      marking : Marking l.plan.steps.now l.i-iterator.iter.iter.rest.now l.marks;
+    }

@@ -1,13 +1,17 @@
-use Rattle.std.proofs.Common.{◌+◌, arith}
+use Rattle.std.proofs.Common.{◌≡◌, ℕ, ◌+◌, ◌<◌, Bool, false, List, get_or, take, drop, ap, ◌∙◌, arith, length-take, get_or-take}
+use Rattle.std.proofs.lemmas.Grind.{get_or_after_one}
 use Rattle.trimming.specs.Needed.{needed_of}
-use Rattle.trimming.proofs.Marks.{byte_small, numbered_none, numbered_more}
+use Rattle.trimming.proofs.Marks.{numbered_more, count_more}
 use Rattle.trimming.proofs.marking.new_numbers.Goals as goal
 
-pub loop-i-init : goal.loop-i-init
-loop-i-init c = numbered_none (needed_of c.args.steps.now)
-
-pub overflow_add-numbers : goal.overflow_add-numbers
-overflow_add-numbers c = omega (arith, c.loop-i.invariant.same c.loop-i.i (omega arith), c.loop-i.invariant.small, byte_small c.from.result _ c.from.ensures)
-
-pub loop-i-preserved : goal.loop-i-preserved
-loop-i-preserved c = numbered_more c.loop-i.numbers (needed_of c.args.steps.now) c.loop-i.i c.from.result _ (omega arith) c.loop-i.invariant c.from.ensures (c.requires.marked (c.loop-i.i + 1) (omega arith))
+pub loop-mark-preserved : goal.loop-mark-preserved
+loop-mark-preserved c =
+    let l = c.loop-mark in
+    let kept = needed_of c.args.plan.now.steps.now in
+    let marks : List Bool = c.needed_marks-marks.result in
+    let h : l.mark-index < 128 = omega (arith, length-take 128 (drop 1 marks)) in
+    let next : 1 + l.mark-index ≡ l.mark-index + 1 = omega arith in
+    let mark : get_or (take 128 (drop 1 marks)) l.mark-index false ≡ get_or marks (l.mark-index + 1) false =
+    get_or-take 128 (drop 1 marks) l.mark-index false h ∙ get_or_after_one marks l.mark-index false ∙ ap (λ (k : ℕ). get_or marks k false) next in
+    let count = count_more kept l.mark-index l.count c.from-count.result _ l.invariant.count c.from-count.ensures (mark ∙ c.needed_marks-marks.ensures.marked (l.mark-index + 1) (omega arith)) in
+    record { numbered = rw c.push-in-loop-mark.ensures.items (numbered_more l.numbers.items kept l.mark-index _ l.invariant.numbered count); count = count }

@@ -1,70 +1,68 @@
-use Rattle.std.proofs.Common.{ℕ, ◌+◌, ◌<◌, ◌≤◌, List, ◌++◌, length, drop, sym, refl, ap, ◌∙◌, subst, arith}
+use Rattle.std.proofs.Common.{◌≡◌, ℕ, ◌<◌, List, length, sym, refl, ap, ◌∙◌, subst, arith}
 use Rattle.plans.specs.declared.step.Step.{Step}
-use Rattle.plans.specs.Chain.{Chain}
+use Rattle.plans.specs.Chain.{step_at, Chain}
 use Rattle.trimming.specs.Needed.{needed_of}
-use Rattle.trimming.specs.Trim.{rank, trimmed, trim_answer}
+use Rattle.trimming.specs.Trim.{rank}
 use Rattle.trimming.proofs.Needing.{needed_law}
-use Rattle.trimming.proofs.Ranks.{rank_room}
-use Rattle.trimming.proofs.Marks.{writing_none, writing_yes, writing_no, writing_all, trim_short, trim_fits}
+use Rattle.trimming.proofs.Marks.{writing_yes, writing_no, writing_all, rises, stays, length_of, trim_short, trim_fits}
 use Rattle.trimming.proofs.Again.{trimmed_chain, trimmed_again}
 use Rattle.trimming.proofs.trimmer.trim.Goals as goal
-use Rattle.trimming.proofs.trimmer.trim.Goals.{then-marks-i, else-marks-i}
+use Rattle.trimming.proofs.trimmer.trim.Goals.{then-at-numbers, else-at-numbers}
 
 pub returns-then-table-len : goal.returns-then-table-len
 returns-then-table-len c =
-    let s : List Step = c.steps-steps.result.now in
-    let l = c.new_numbers-numbers.ensures.numbered (length s) (omega arith) in
-    let k = subst (Chain c.args.plan.now.exponent) c.steps-steps.ensures.steps c.steps-steps.ensures.chain in
-    record {
-      answer = trim_short s (length c.args.table.now) c.from-len.result (c.from-len.ensures ∙ l) (omega arith) ∙ ap (λ (x : List Step). trim_answer x (length c.args.table.now)) c.steps-steps.ensures.steps;
-      after = refl;
-      needed = needed_law c.args.plan.now.steps.now k.cites;
-      chain = tt;
-      again = trimmed_again _ _ k;
-    }
+    let s : List Step = c.args.plan.now.steps.now in
+    let same = c.steps-steps.ensures.steps in
+    let len = length_of c.as_slice-numbers.result.now (needed_of s) s _ _ (rw (← c.as_slice-numbers.ensures.value) at c.new_numbers-all.ensures.numbered) same c.from-len.ensures in
+    let k = subst (Chain c.args.plan.now.exponent) same c.steps-steps.ensures.chain in
+    record { answer = trim_short s (length c.args.table.now) c.from-len.result len c.if-table-len.true; after = refl; needed = needed_law s k.cites; chain = tt; again = trimmed_again _ _ k }
 
-pub loop-i-init : goal.loop-i-init
-loop-i-init c = writing_none (needed_of c.steps-steps.result.now) c.steps-steps.result.now c.args.table.now
-
-pub bounds-table-at : goal.bounds-table-at
-bounds-table-at c =
-    let s : List Step = c.steps-steps.result.now in
-    let l = c.new_numbers-numbers.ensures.numbered (length s) (omega arith) in
-    let n = sym (c.needed_marks-marks.ensures.marked (c.loop-i.i + 1) (omega (arith, c.steps-steps.ensures.chain.short))) ∙ c.if-marks-i.true in
-    omega (arith, rank_room (needed_of s) s c.loop-i.i (omega arith) n, c.loop-i.invariant.count, c.from-len.ensures)
+pub bounds-table-from : goal.bounds-table-from
+bounds-table-from c =
+    let s : List Step = c.args.plan.now.steps.now in
+    let same = c.steps-steps.ensures.steps in
+    let len = length_of c.as_slice-numbers.result.now (needed_of s) s _ _ (rw (← c.as_slice-numbers.ensures.value) at c.new_numbers-all.ensures.numbered) same c.from-len.ensures in
+    let h : c.loop-i.i < length s = omega (arith, ap length same) in
+    let n = (rw (← c.as_slice-numbers.ensures.value) at c.new_numbers-all.ensures.numbered) in
+    let r = rises c.as_slice-numbers.result.now (needed_of s) s n c.loop-i.i h c.if-at-numbers.true in
+    omega (arith, n c.loop-i.i (omega arith), c.from-then-at-numbers-2.ensures)
 
 pub loop-i-preserved : goal.loop-i-preserved
 loop-i-preserved c =
-    let s : List Step = c.steps-steps.result.now in
+    let s : List Step = c.args.plan.now.steps.now in
+    let kept : List ℕ = needed_of s in
     let i : ℕ = c.loop-i.i in
-    let h : i < length s = omega arith in
-    let short : length s ≤ 128 = c.steps-steps.ensures.chain.short in
-    let l = c.new_numbers-numbers.ensures.numbered (length s) (omega arith) in
-    let mark = c.needed_marks-marks.ensures.marked (i + 1) (omega arith) in
-    elim c.if-marks-i.branch [
-      | then-marks-i w ↦
-          let n = sym mark ∙ w.if-marks-i.true in
-          let q = c.steps-steps.ensures.chain.cites i h in
-          let a = c.new_numbers-numbers.ensures.numbered w.from.result (omega (arith, w.from.ensures)) ∙ ap (rank (needed_of s)) w.from.ensures in
-          let b = c.new_numbers-numbers.ensures.numbered w.from-then-marks-i.result (omega (arith, w.from-then-marks-i.ensures)) ∙ ap (rank (needed_of s)) w.from-then-marks-i.ensures in
-          let room : c.loop-i.at < length c.loop-i.table = omega (arith, rank_room (needed_of s) s i h n, c.loop-i.invariant.count, c.from-len.ensures) in
-          rw (w.table-is, w.at-is) (writing_yes (needed_of s) s c.args.table.now c.loop-i.table c.loop-i.at i c.loop-i.invariant h _ _ n room a b)
-      | else-marks-i w ↦
-          let n = sym mark ∙ w.if-marks-i.false in
-          rw (w.table-is, w.at-is) (writing_no (needed_of s) s c.args.table.now c.loop-i.table c.loop-i.at i c.loop-i.invariant h n)
+    let same = c.steps-steps.ensures.steps in
+    let h : i < length s = omega (arith, ap length same) in
+    let n = (rw (← c.as_slice-numbers.ensures.value) at c.new_numbers-all.ensures.numbered) in
+    let x : step_at c.steps-steps.result.now i ≡ step_at s i = ap (λ (y : List Step). step_at y i) same in
+    let len = length_of c.as_slice-numbers.result.now kept s _ _ n same c.from-len.ensures in
+    let q = c.args.plan.now.cites i h in
+    elim c.if-at-numbers.branch [
+      | then-at-numbers w ↦
+          let r = rises c.as_slice-numbers.result.now kept s n i h w.if-at-numbers.true in
+          let at = w.from-then-at-numbers-2.ensures ∙ n i (omega arith) in
+          let room : w.from-then-at-numbers-2.result < length c.loop-i.table = omega (arith, at, r.1, len) in
+          let j = n w.from.result (omega (arith, w.from.ensures, ap (λ (y : Step). y.j) x)) ∙ ap (rank kept) w.from.ensures in
+          let k = n w.from-then-at-numbers.result (omega (arith, w.from-then-at-numbers.ensures, ap (λ (y : Step). y.k) x)) ∙ ap (rank kept) w.from-then-at-numbers.ensures in
+          rw w.table-is (writing_yes kept s c.args.table.now c.loop-i.table i c.loop-i.invariant h (step_at c.steps-steps.result.now i) w.from-then-at-numbers-2.result _ _ x at r.0 room j k)
+      | else-at-numbers w ↦
+          let still = stays c.as_slice-numbers.result.now kept s n i h w.if-at-numbers.false in
+          rw w.table-is (writing_no kept s c.args.table.now c.loop-i.table i c.loop-i.invariant h still)
     ]
 
 pub returns : goal.returns
 returns c =
-    let s : List Step = c.steps-steps.result.now in
-    let l = c.from-len.ensures ∙ c.new_numbers-numbers.ensures.numbered (length s) (omega arith) in
-    let g = writing_all (needed_of s) s c.args.table.now c.loop-i.table c.loop-i.at c.loop-i.i c.from-len.result c.loop-i.invariant (omega arith) l (omega arith) in
+    let s : List Step = c.args.plan.now.steps.now in
     let same = c.steps-steps.ensures.steps in
+    let len = length_of c.as_slice-numbers.result.now (needed_of s) s _ _ (rw (← c.as_slice-numbers.ensures.value) at c.new_numbers-all.ensures.numbered) same c.from-len.ensures in
+    let all : c.loop-i.i ≡ length s = omega (arith, ap length same) in
+    let g = writing_all (needed_of s) s c.args.table.now c.loop-i.table c.loop-i.i c.from-len.result c.loop-i.invariant all len (omega arith) in
     let k = subst (Chain c.args.plan.now.exponent) same c.steps-steps.ensures.chain in
     record {
-      answer = trim_fits s (length c.args.table.now) c.from-len.result l (omega arith) ∙ ap (λ (x : List Step). trim_answer x (length c.args.table.now)) same;
-      after = g.0 ∙ ap (λ (x : List Step). trimmed x ++ drop (length (trimmed x)) c.args.table.now) same;
-      needed = needed_law c.args.plan.now.steps.now k.cites;
-      chain = subst (Chain c.args.plan.now.exponent) (sym (g.1 ∙ ap trimmed same)) (trimmed_chain _ _ k);
+      answer = trim_fits s (length c.args.table.now) c.from-len.result len (omega arith);
+      after = g.0;
+      needed = needed_law s k.cites;
+      chain = subst (Chain c.args.plan.now.exponent) (sym g.1) (trimmed_chain _ _ k);
       again = trimmed_again _ _ k;
     }

@@ -4,8 +4,8 @@ use Rattle.bits.proofs.Tops.{highest}
 use Rattle.polynomial_ring.proofs.Remainders.{reduces}
 use Rattle.polynomials.proofs.register.Register.new.Goals as goal
 
-pub returns-then-modulus-lt-SMALLEST_MODULUS : goal.returns-then-modulus-lt-SMALLEST_MODULUS
-returns-then-modulus-lt-SMALLEST_MODULUS c = record { answer = search rules; highest = highest; multiplies = multiplies; reduces = reduces }
+pub returns-in_err-modulus : goal.returns-in_err-modulus
+returns-in_err-modulus c = record { answer = search rules; highest = highest; multiplies = multiplies; reduces = reduces }
 
 pub returns : goal.returns
 returns c = record { answer = search rules; highest = highest; multiplies = multiplies; reduces = reduces }
