@@ -33,7 +33,7 @@ pub extern "C" fn polynomial_chain(f: u64, a: u64, b: u64, n: u64) -> u64
     let Ok(kind) = Register::new(f) else {
         return REFUSED;
     };
-    chain(&kind, Word { bits: a }, Word { bits: b }, n).map_or(REFUSED, u64::from)
+    chain(&kind, Word::from(a), Word::from(b), n).map_or(REFUSED, u64::from)
 }
 
 /// The capped sum of the count a and n times b.
@@ -41,7 +41,7 @@ pub extern "C" fn polynomial_chain(f: u64, a: u64, b: u64, n: u64) -> u64
 pub extern "C" fn count_chain(a: u64, b: u64, n: u64) -> u64
     ensures value { result ≡ count_chain a b n }
 {
-    chain(&Counts, Count { value: a }, Count { value: b }, n).map_or(REFUSED, u64::from)
+    chain(&Counts, Count::from(a), Count::from(b), n).map_or(REFUSED, u64::from)
 }
 
 /// Power n of the polynomial x modulo f, by the plan from left to right.
@@ -52,7 +52,7 @@ pub extern "C" fn polynomial_power(f: u64, x: u64, n: u64) -> u64
     let Ok(kind) = Register::new(f) else {
         return REFUSED;
     };
-    raise(&kind, Word { bits: x }, n).map_or(REFUSED, u64::from)
+    raise(&kind, Word::from(x), n).map_or(REFUSED, u64::from)
 }
 
 /// The checksum of the plan of n by the method of this number and width.

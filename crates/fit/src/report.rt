@@ -1,7 +1,8 @@
 //! What the program prints.
 use crate::cards::CardError;
 use crate::request::{CardKind, Request};
-use fitting::{Fitted, Tables, describe};
+use fitting::{Fitted, Size, Tables, describe};
+use plans::Step;
 use std::io;
 
 /// How the program is called.
@@ -22,18 +23,20 @@ pub(crate) fn print_usage(rt: &HostRuntime) -> io::Result<()> {
 }
 
 fn print_card(rt: &HostRuntime, request: &Request) -> io::Result<()> {
-    let exponent = request.exponent;
+    let Request {
+        exponent,
+        kind,
+        modulus,
+        cells,
+        allowance,
+        base,
+    } = *request;
     println!(rt; "exponent         {exponent}")?;
-    let kind = request.kind;
     print!(rt; "card             {kind}")?;
     if kind != CardKind::Counts {
-        let modulus = request.modulus;
         print!(rt; " modulo {modulus}")?;
     }
-    let cells = request.cells;
-    let allowance = request.allowance;
     println!(rt; "; cells {cells}; allowance {allowance}")?;
-    let base = request.base;
     println!(rt; "base             {base}")
 }
 
@@ -49,9 +52,7 @@ fn print_steps(rt: &HostRuntime, tables: &Tables, length: usize) -> io::Result<(
         .zip(&tables.exponents)
         .zip(&tables.cells[1..]);
     for (number, ((step, given), cell)) in (1u64..).zip(rows).take(length) {
-        let j = step.j;
-        let k = step.k;
-        let value = step.value;
+        let Step { j, k, value } = *step;
         print!(rt; "{number:>5}    {j:>3} and {k:>3}{value:>22}")?;
         println!(rt; "{given:>21}{cell:>7}")?;
     }
@@ -66,21 +67,17 @@ fn first_difference(tables: &Tables, length: usize) -> Option<usize> {
 }
 
 fn print_found(rt: &HostRuntime, tables: &Tables, found: &Fitted<u64>) -> io::Result<()> {
-    let length = found.plan.length;
-    let need = found.plan.need;
+    let Size { length, need } = found.plan;
     println!(rt; "plan             length {length}, need {need}")?;
-    let trimmed = found.trimmed.length;
-    let need = found.trimmed.need;
-    println!(rt; "trimmed plan     length {trimmed}, need {need}")?;
-    print_steps(rt, tables, trimmed)?;
-    match first_difference(tables, trimmed) {
+    let Size { length, need } = found.trimmed;
+    println!(rt; "trimmed plan     length {length}, need {need}")?;
+    print_steps(rt, tables, length)?;
+    match first_difference(tables, length) {
         None => println!(rt; "exponents        identical")?,
         Some(number) => println!(rt; "exponents        first different at value {number}")?,
     }
-    let power = found.power;
-    println!(rt; "power            {power}")?;
-    let left = found.left;
-    println!(rt; "allowance left   {left}")
+    println!(rt; "power            {}", found.power)?;
+    println!(rt; "allowance left   {}", found.left)
 }
 
 fn print_refusal(rt: &HostRuntime, error: &CardError) -> io::Result<()> {
