@@ -23,7 +23,7 @@ pub struct Bank<K: Kind> {
 
 impl<K: Kind> Bank<K> {
     /// An empty bank of this kind, with this allowance.
-    pub fn new(rule: K, allowance: u64) -> Self
+    pub fn of(rule: K, allowance: u64) -> Self
         ensures empty { bank result.places result.left ≡ fresh allowance }
         ensures rule { result.rule ≡ rule }
     {

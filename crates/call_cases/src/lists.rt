@@ -88,7 +88,7 @@ fn told_of<V: Number>(answer: Answer<V>) -> Told {
         Answer::Carried(power) => Told::Job(
             power
                 .map(|raised| raised.value.number())
-                .map_err(|e| (e.stage, Refused::from(e.refusal))),
+                .map_err(|e| (e.stage(), Refused(e.number(), e.place()))),
         ),
     }
 }

@@ -7,8 +7,8 @@ mod lists;
 mod straight;
 mod table;
 
-use banks::Bank;
-use kinds::{Counts, Residues};
+use banks::{CountsBank, RegisterBank, ResiduesBank};
+use kinds::Residues;
 use lists::try_list;
 use polynomials::Register;
 use quota::Quota;
@@ -27,20 +27,20 @@ const BELOW_SHEET: u64 = 20;
 
 // The lists on the banks.
 fn print_banks(rt: &HostRuntime, residues: Residues, register: Register) -> io::Result<()> {
-    let bank = Bank::new(Counts, COUNTS.start);
+    let bank = CountsBank::new(COUNTS.start);
     let tally = try_list(rt.alloc(), bank, COUNTS, |_, _| true)?;
     println!(rt; "counts: {tally}")?;
-    let bank = Bank::new(residues, RESIDUES.start);
+    let bank = ResiduesBank::new(residues, RESIDUES.start);
     let tally = try_list(rt.alloc(), bank, RESIDUES, |_, _| true)?;
     println!(rt; "residues: {tally}")?;
-    let bank = Bank::new(register, POLYNOMIALS.start);
+    let bank = RegisterBank::new(register, POLYNOMIALS.start);
     let tally = try_list(rt.alloc(), bank, POLYNOMIALS, |_, _| true)?;
     println!(rt; "polynomials: {tally}")
 }
 
 // The bank below a quota and a window has made the same multiplications.
 fn print_quota_on_window(rt: &HostRuntime, residues: Residues) -> io::Result<()> {
-    let bank = Bank::new(residues, BELOW_WINDOW);
+    let bank = ResiduesBank::new(residues, BELOW_WINDOW);
     let quota = Quota::new(Window::new(bank, 4, 2), QUOTA_ON_WINDOW.start);
     let tally = try_list(rt.alloc(), quota, QUOTA_ON_WINDOW, |quota, spending| {
         let bank = quota.take_off().take_off();
@@ -51,7 +51,7 @@ fn print_quota_on_window(rt: &HostRuntime, residues: Residues) -> io::Result<()>
 
 // A run sheet has a record of each multiplication, and the quota below it counts the same.
 fn print_sheet_on_quota(rt: &HostRuntime, register: Register) -> io::Result<()> {
-    let bank = Bank::new(register, SHEET_ON_QUOTA.start);
+    let bank = RegisterBank::new(register, SHEET_ON_QUOTA.start);
     let sheet = RunSheet::new(Quota::new(bank, BELOW_SHEET));
     let tally = try_list(rt.alloc(), sheet, SHEET_ON_QUOTA, |sheet, spending| {
         let recorded = sheet.len() as u64 == spending.spent;

@@ -6,7 +6,7 @@ ghost use Rattle.digit_plans.specs.Digits.{is_width, digits_plan, DigitsRule, di
 
 use crate::parts::{listed, write_digit, write_list};
 use crate::widths::Width;
-use planning::{StepWriter, check_exponent};
+use planning::{StepWriter, check_request};
 use plans::{MOST_STEPS, Step};
 use refusals::Refusal;
 
@@ -46,10 +46,10 @@ pub fn digits(n: u64, width: u32, table: &mut [Step]) -> Result<usize, Refusal>
     ensures count { IfOk result (λ l. l ≡ digits_length width n) }
     ensures chain { IfOk result (λ l. Chain n (take l table.new)) }
 {
-    check_exponent(n)?;
+    check_request(Width::try_from(width).is_ok(), n, table.len())?;
     let width = Width::try_from(width)?;
     let Some(places) = table.first_chunk_mut() else {
-        return Err(Refusal::TableShort(MOST_STEPS as u64));
+        unreachable!()
     };
     Ok(write_plan(n, width, places))
 }

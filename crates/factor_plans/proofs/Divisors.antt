@@ -1,5 +1,5 @@
 -- The smallest divisor above 1. Assumes nothing.
-use Rattle.std.proofs.Common.{◌≡◌, ℕ, zero, suc, ◌+◌, ◌*◌, ◌/◌, ◌%◌, ◌<◌, ◌≤◌, true, false, eqb, ltb, Some, None, Option, MatchOption, unwrap_or, sym, refl, ap, ◌∙◌, subst, ⊎_elim, mod-eq_of_lt, mul_comm, mul-le-mul, div-add-mod', arith}
+use Rattle.std.proofs.Common.{◌≡◌, ℕ, zero, suc, ◌+◌, ◌*◌, ◌/◌, ◌%◌, ◌<◌, ◌≤◌, true, false, eqb, ltb, Some, None, ◌⊎◌, sym, refl, ap, ◌∙◌, subst, ⊎_elim, mod-eq_of_lt, mul_comm, mul-le-mul, div-add-mod', arith}
 use native.Mathlib.Nat.{mod_self, mul-mod_right, div-eq_of_eq-mul_right}
 use Rattle.std.proofs.lemmas.Bool.{eqb-true, eqb-false, lt-ltb, le-ltb, cases_lt, cases_order, cond_both}
 use Rattle.factor_plans.specs.Divisors.{Least, divisor_from, least_divisor, least_of}
@@ -88,9 +88,19 @@ least_past n d h big b =
     (cases_lt e d))
     (cases_lt m d))
 
--- the first divisor from 2 up to the root of n, and n where there is none
-pub least_found : (n root : ℕ) (r : Option ℕ) → 1 < n → n < (root + 1) * (root + 1)
-    → MatchOption r (NoneBelow n (root + 1)) (λ d. (2 ≤ d) × (d < root + 1) × (n % d ≡ 0) × NoneBelow n d)
-    → Least n (unwrap_or r n)
-least_found n root (Some d) h big f = record { above = f.0; divides = f.2; least = f.3 }
-least_found n root None h big f = least_past n (root + 1) h big f
+-- what the search for a divisor of n finds below d: no number there is past the root of n, and none divides n
+abbrev pub WentOn : ℕ → ℕ → Type 0
+WentOn n d = (k : ℕ) → 2 ≤ k → k < d → (k * k ≤ n) × (n % k ≡ 0 → ⊥)
+
+-- where it ends at d, and d is within the root, d is the smallest divisor
+pub least_here : (n d : ℕ) → 2 ≤ d → (n < d * d) ⊎ (n % d ≡ 0) → WentOn n d → d * d ≤ n → Least n d
+least_here n d l ends on within =
+    record {
+      above = l;
+      divides = ⊎_elim (λ (h : n < d * d). absurd (omega arith)) (λ (h : n % d ≡ 0). h) ends;
+      least = λ m a h. (on m a h).1;
+    }
+
+-- where it went on up to d, which is past the root, n is its own smallest divisor
+pub least_beyond : (n d : ℕ) → 1 < n → WentOn n d → n < d * d → Least n n
+least_beyond n d h on past = least_past n d h past (λ m a l. (on m a l).1)

@@ -7,7 +7,7 @@ ghost use Rattle.planning.specs.Planning.{planned, written};
 ghost use Rattle.factor_plans.specs.Factor.{allows_factor, shifted, factor_plan, FactorRule};
 
 use crate::divisor::least_divisor;
-use planning::{Reached, StepWriter, check_exponent};
+use planning::{Reached, StepWriter, check_request};
 use plans::{MOST_STEPS, Step};
 use refusals::Refusal;
 
@@ -61,12 +61,9 @@ pub fn factor(n: u64, table: &mut [Step]) -> Result<usize, Refusal>
     ensures short { IfOk result (λ l. l ≤ 2 * top n) }
     ensures chain { IfOk result (λ l. Chain n (take l table.new)) }
 {
-    check_exponent(n)?;
-    if n > TOP_FACTORED {
-        return Err(Refusal::Method);
-    }
+    check_request(n <= TOP_FACTORED, n, table.len())?;
     let Some(places) = table.first_chunk_mut() else {
-        return Err(Refusal::TableShort(MOST_STEPS as u64));
+        unreachable!()
     };
     Ok(write_plan(n, places))
 }

@@ -1,9 +1,9 @@
 //! The fitting on a card of each kind: a bank under a window.
 use crate::request::{CardKind, Request};
-use banks::Bank;
+use banks::{CountsBank, RegisterBank, ResiduesBank};
 use fitting::{Fitted, Tables, fit};
 use jobs::JobRefusal;
-use kinds::{Count, Counts, Residues};
+use kinds::{Count, Residues};
 use polynomials::{Register, Word};
 use refusals::Refusal;
 use std::fmt;
@@ -74,17 +74,18 @@ pub(crate) fn fit_to_card(
     let allowance = request.allowance;
     match request.kind {
         CardKind::Counts => {
-            let bank = Bank::new(Counts, allowance);
+            let bank = CountsBank::new(allowance);
             fit_to_bank(bank, Count::from(request.base), request, text, tables)
         }
         CardKind::Residues => {
             let rule = Residues::new(request.modulus).map_err(CardError::NoCard)?;
             let base = (request.base & 0xffff_ffff) as u32;
-            fit_to_bank(Bank::new(rule, allowance), base, request, text, tables)
+            let bank = ResiduesBank::new(rule, allowance);
+            fit_to_bank(bank, base, request, text, tables)
         }
         CardKind::Polynomials => {
             let rule = Register::new(request.modulus).map_err(CardError::NoCard)?;
-            let bank = Bank::new(rule, allowance);
+            let bank = RegisterBank::new(rule, allowance);
             fit_to_bank(bank, Word::from(request.base), request, text, tables)
         }
     }

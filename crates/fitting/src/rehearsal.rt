@@ -5,7 +5,7 @@ ghost use Rattle.fitting.specs.Fitting.{rehearsal_fault, rehearsed_in};
 
 use crate::records::work_records;
 use banks::CountsBank;
-use kinds::{Count, Counts};
+use kinds::Count;
 use plans::{MOST_STEPS, Plan};
 use refusals::Refusal;
 use run_sheet::RunSheet;
@@ -21,7 +21,7 @@ pub(crate) fn rehearse(
     ensures answer { result ≡ verdict (rehearsal_fault plan.now.steps.now) }
     ensures after { exponents.new ≡ rehearsed_in plan.now.steps.now exponents.old }
 {
-    let mut sheet = RunSheet::new(CountsBank::new(Counts, MOST_STEPS as u64));
+    let mut sheet = RunSheet::new(CountsBank::new(MOST_STEPS as u64));
     run(&mut sheet, plan, Count { value: 1 })?;
     work_records(sheet.records(), start, exponents);
     Ok(())

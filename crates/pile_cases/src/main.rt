@@ -9,9 +9,9 @@ mod model;
 mod piles;
 mod table;
 
-use banks::Bank;
+use banks::{CountsBank, RegisterBank, ResiduesBank};
 use driving::{Tally, Trial};
-use kinds::{Counts, Residues};
+use kinds::Residues;
 use ledger::Ledger;
 use model::{Layer, MOST_KEPT, Model, Setting};
 use piles::drive_pile;
@@ -98,12 +98,12 @@ impl Bottom {
     fn drive(self, trial: &mut Trial<'_>) -> Result<(), Refusal> {
         let allowance = trial.model.setting.allowance;
         match self {
-            Bottom::Bank(Rule::Sums) => drive_pile(Bank::new(Counts, allowance), trial),
+            Bottom::Bank(Rule::Sums) => drive_pile(CountsBank::new(allowance), trial),
             Bottom::Bank(Rule::Residues(p)) => {
-                drive_pile(Bank::new(Residues::new(p)?, allowance), trial);
+                drive_pile(ResiduesBank::new(Residues::new(p)?, allowance), trial);
             }
             Bottom::Bank(Rule::Polynomials(f)) => {
-                drive_pile(Bank::new(Register::new(f)?, allowance), trial);
+                drive_pile(RegisterBank::new(Register::new(f)?, allowance), trial);
             }
             Bottom::Ledger(cells) => drive_pile(Ledger::new(cells, allowance), trial),
         }

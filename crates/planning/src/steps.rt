@@ -49,6 +49,16 @@ impl<'a> StepWriter<'a> {
         self.len
     }
 
+    // Writes the next step, for which there is room.
+    fn write(&mut self, j: u16, k: u16, value: u64)
+        requires room { self.old.len < 128 }
+        ensures same_table { self.new.table.ghost_name ≡ self.old.table.ghost_name }
+        ensures written { Pushed self.old self.new (step j k value) }
+    {
+        self.table[self.len] = Step { j, k, value };
+        self.len += 1;
+    }
+
     /// Writes the next step, which cites the values number j and k. Refused where 128 steps stand.
     pub fn push(&mut self, j: u16, k: u16, value: u64) -> Result<(), Refusal>
         ensures answer { result ≡ next_step self.old.len }
@@ -58,8 +68,7 @@ impl<'a> StepWriter<'a> {
         if self.len == MOST_STEPS {
             return Err(Refusal::TooLong);
         }
-        self.table[self.len] = Step { j, k, value };
-        self.len += 1;
+        self.write(j, k, value);
         Ok(())
     }
 
@@ -71,10 +80,16 @@ impl<'a> StepWriter<'a> {
         ensures written { MatchResult result (λ made. Pushed self.old self.new (step x.number y.number made.value)) (λ _. Kept self.old self.new) }
         ensures made { IfOk result (λ made. (made.number ≡ self.new.len) × (made.value ≡ x.value + y.value)) }
     {
-        let Some(value) = x.value.checked_add(y.value) else {
-            return Err(Refusal::NotRising(self.len as u64 + 1));
-        };
-        self.push(x.number, y.number, value)?;
+        let (value, wraps) = x.value.overflowing_add(y.value);
+        // one test for both refusals, which the methods never meet
+        if wraps | (self.len == MOST_STEPS) {
+            return Err(if wraps {
+                Refusal::NotRising(self.len as u64 + 1)
+            } else {
+                Refusal::TooLong
+            });
+        }
+        self.write(x.number, y.number, value);
         Ok(Reached {
             number: self.len as u16,
             value,

@@ -43,8 +43,9 @@ impl<'a> Plan<'a> {
         ensures exactly { Decides (is_ok result) (Chain n steps.now) }
         ensures refused { IfErr result (λ e. FirstFault n steps.now e) }
     {
-        check_chain(n, steps)?;
-        Ok(Plan { exponent: n, steps })
+        let mut plan = Plan::one();
+        plan.admit(n, steps)?;
+        Ok(plan)
     }
 
     /// Admits the steps as a plan of n into this place, by the same rules; refused, the place stays as it was.
@@ -54,7 +55,8 @@ impl<'a> Plan<'a> {
         ensures refused { IfErr result (λ e. FirstFault n steps.now e) }
         ensures after { MatchResult result (λ _. (self.new.exponent ≡ n) × (self.new.steps.now ≡ steps.now)) (λ _. self.new ≡ self.old) }
     {
-        *self = Plan::new(n, steps)?;
+        check_chain(n, steps)?;
+        *self = Plan { exponent: n, steps };
         Ok(())
     }
 

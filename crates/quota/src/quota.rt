@@ -88,6 +88,8 @@ impl<U: Unit> Unit for Quota<U> {
         self.below.load(cell, v)
     }
 
+    // In line, since the check of a multiplication reads twice.
+    #[inline(always)]
     fn read(&self, cell: u8) -> Result<U::Value, Refusal>
         ensures value { result ≡ reading (⟦<Self as Unit>⟧.state self.now) cell }
         ensures below { result ≡ reading (U.state self.now.below) cell }

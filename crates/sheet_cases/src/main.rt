@@ -1,21 +1,24 @@
 //! Reads good and damaged sheets, and compares each answer with a second, plain reading of the rules: number, place, and the field at fault.
 #![tactic(auto)]
 
+use arrayvec::ArrayString;
 use binary_plans::left_to_right;
 use plain_numbers::Refused;
 use plain_numbers::refused::{FIELD, SHEET_LINE, STEP_NUMBER, TOO_LONG};
 use plans::{MOST_STEPS, NO_STEP, Plan};
 use refusals::Refusal;
 use sheets::{SheetReader, write_sheet};
-use std::alloc::{AllocError, Global};
+use std::fmt::Write;
 use std::num::Saturating;
 use std::{fmt, io};
 
 // A line's bytes.
 const LINE: usize = 32;
 
-// The bytes of a sheet of 7 lines.
+// The bytes of a sheet of 7 lines, and of one of 129.
 const SEVEN: usize = 224;
+
+const MANY: usize = 4128;
 
 // A byte of each class.
 const CLASSES: [u8; 10] = [b' ', b'0', b'1', b'9', b'x', b'+', b'\n', b'\t', 0, 255];
@@ -45,19 +48,27 @@ impl<'a> Fault<'a> {
     }
 }
 
-// The number in a field, blanks and then its digits; nothing where it is malformed.
+// The number in a field, read from its last byte back; nothing where it is malformed.
 fn plain_number(field: &[u8]) -> Option<u64> {
-    let blanks = field.iter().position(|c| *c != b' ')?;
-    let digits = &field[blanks..];
-    if digits.len() > 1 && digits.first() == Some(&b'0') {
-        return None;
-    }
     let mut value = 0u64;
-    for c in digits {
-        if !c.is_ascii_digit() {
+    let mut unit = 1u64;
+    let mut digits = 0usize;
+    let mut last = b'0';
+    let mut blanks = false;
+    for c in field.iter().rev().copied() {
+        if c == b' ' {
+            blanks = true;
+        } else if blanks || !c.is_ascii_digit() {
             return None;
+        } else {
+            value = value.wrapping_add(unit.wrapping_mul(u64::from(c - b'0')));
+            unit = unit.wrapping_mul(10);
+            digits = digits.saturating_add(1);
+            last = c;
         }
-        value = value.wrapping_mul(10).wrapping_add(u64::from(*c - b'0'));
+    }
+    if digits == 0 || (last == b'0' && digits > 1) {
+        return None;
     }
     Some(value)
 }
@@ -175,8 +186,8 @@ fn sheet_of_23() -> Result<[u8; SEVEN], Refusal> {
 }
 
 // A sheet of 129 lines that counts 1, 2, 3 and on.
-fn long_sheet(alloc: Global) -> Result<String, AllocError> {
-    let mut text = String::new(alloc);
+fn long_sheet() -> Result<ArrayString<MANY>, fmt::Error> {
+    let mut text = ArrayString::new();
     for line in 0..129u64 {
         writeln!(text, "{:4}{:4}{:4}{:19}", line + 1, line, 0, line + 2)?;
     }
@@ -198,9 +209,7 @@ fn front(text: &[u8], size: usize) -> &[u8] {
     text.get(..size).unwrap_or(text)
 }
 
-fn print_lengths(rt: &HostRuntime, sheet: &[u8]) -> io::Result<()> {
-    let long = long_sheet(rt.alloc())?;
-    let many = long.as_bytes();
+fn print_lengths(rt: &HostRuntime, sheet: &[u8], many: &[u8]) -> io::Result<()> {
     print_row(rt, "empty sheet", &[], 0)?;
     print_row(rt, "7 lines", sheet, 7)?;
     print_row(rt, "7 lines, table of 6", sheet, 6)?;
@@ -214,7 +223,10 @@ fn main(rt: HostRuntime) -> io::Result<()> {
     let Ok(sheet) = sheet_of_23() else {
         return println!(rt; "no sheet of 23");
     };
-    print_lengths(&rt, &sheet)?;
+    let Ok(long) = long_sheet() else {
+        return println!(rt; "no sheet of 129 lines");
+    };
+    print_lengths(&rt, &sheet, long.as_bytes())?;
     let tally = damage(&sheet);
     println!(rt; "damaged sheets: {tally}")
 }

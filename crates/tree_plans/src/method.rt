@@ -10,7 +10,7 @@ ghost use Rattle.tree_plans.specs.Method.{tree_request, Parents};
 
 use crate::growing::{climb, grow};
 use crate::writing::write_steps;
-use planning::check_exponent;
+use planning::check_request;
 use plans::{MOST_STEPS, Step};
 use power_tree::{PARENTS, TOP_NUMBER};
 use refusals::Refusal;
@@ -37,12 +37,9 @@ pub fn tree(n: u64, table: &mut [Step], parents: &mut [u16]) -> Result<usize, Re
     ensures count { IfOk result (λ len. len ≤ top n + count_ones n - 1) }
     ensures chain { IfOk result (λ len. Chain n (take len table.new)) }
 {
-    check_exponent(n)?;
-    if n > TOP_NUMBER {
-        return Err(Refusal::Method);
-    }
+    check_request(n <= TOP_NUMBER, n, table.len())?;
     let Some(places) = table.first_chunk_mut() else {
-        return Err(Refusal::TableShort(MOST_STEPS as u64));
+        unreachable!()
     };
     let Some(front) = parents.first_chunk_mut::<PARENTS>() else {
         return Err(Refusal::TableShort(PARENTS as u64));

@@ -1,5 +1,5 @@
 //! Which values of a plan are needed, and their numbers among the needed ones.
-ghost use Rattle.std.specs.Prelude.{◌≡◌, ℕ, ◌<◌, ◌≤◌, false, length, slice_index, slice_index_or};
+ghost use Rattle.std.specs.Prelude.{◌≡◌, ℕ, ◌+◌, ◌<◌, ◌≤◌, false, length, slice_index, slice_index_or};
 ghost use Rattle.trimming.specs.Needed.{needed, needed_of};
 ghost use Rattle.trimming.specs.Trim.{rank};
 
@@ -24,14 +24,14 @@ fn needed_marks(plan: &Plan<'_>) -> [bool; MOST_VALUES]
 
 // The new numbers of the values: of each, how many of the values from a_1 up to it are needed.
 pub(crate) fn new_numbers(plan: &Plan<'_>) -> ArrayVec<u16, MOST_VALUES>
-    ensures long { length result.items ≡ 129 }
+    ensures long { length result.items ≡ length plan.now.steps.now + 1 }
     ensures numbered { (m : ℕ) → m ≤ length plan.now.steps.now → slice_index result.items m ≡ rank (needed_of plan.now.steps.now) m }
 {
     let marks = needed_marks(plan);
     let mut count = 0;
     let mut numbers = ArrayVec::new();
     numbers.push(count);
-    for mark in &marks[1..] {
+    for mark in &marks[1..=plan.len()] {
         count += u16::from(*mark);
         numbers.push(count);
     }

@@ -1,9 +1,10 @@
 -- What an accepted call says of the state, and a refused one of its answer. Assumes nothing.
-use Rattle.std.proofs.Common.{◌≡◌, ℕ, ◌<◌, true, ltb, length, get_or, is_some, None, Ok, Err, Option, Result, sym, refl, ap, ◌∙◌, ltb-true, lt-ltb}
+use Rattle.std.proofs.Common.{◌≡◌, ℕ, ◌<◌, true, ltb, length, get_or, is_some, IsErrAnd, None, Ok, Err, Option, Result, sym, refl, ap, ◌∙◌, ltb-true, lt-ltb}
 use Rattle.refusals.specs.declared.refusal.Refusal.{Refusal}
 use Rattle.refusals.specs.declared.refusal.Refusal.TheVariants.{NotNative, NoSuchCell, CellEmpty, AllowanceSpent}
-use Rattle.refusals.specs.Faults.{verdict, settle}
+use Rattle.refusals.specs.Faults.{verdict, settle, Unchanged}
 use Rattle.refusals.proofs.Firsts.{verdict_none, verdict_some, unless_true, first_none}
+use Rattle.refusals.proofs.Answered.{not_both}
 use Rattle.kinds.specs.Kinds.{Meaning}
 use Rattle.units.specs.Units.{State, no_cell, no_value, cells_fault, load_fault, load_answer, multiply_fault, multiply_answer}
 
@@ -60,6 +61,25 @@ multiply_accepted s to a b m =
     let f' = m.b_filled in
     let q = lt-ltb 0 s.left m.some in
     simp (p, p', p'', f, f', q)
+
+-- a call hands on the refusal of its check
+pub handed_on : (f : Option Refusal) (e : Refusal) (r : Result (Unit {0}) Refusal) → IsErrAnd r (λ y. y ≡ e) → Err e ≡ verdict f → r ≡ verdict f
+handed_on f e (Ok x) h told = absurd h
+handed_on f e (Err y) h told = ap (λ (z : Refusal). Err z) h ∙ told
+
+-- an accepted call is not refused
+pub no_refusal : {P : Type 0} (e : Refusal) (r : Result (Unit {0}) Refusal) → Err e ≡ r → r ≡ Ok tt → P
+no_refusal e r told p = not_both tt e (sym (told ∙ p))
+
+-- a call that touched nothing changed nothing, however it answers
+pub untouched : {X E A : Type 0} (r : Result X E) (u : A) → Unchanged r u u
+untouched (Ok x) u = tt
+untouched (Err e) u = refl
+
+-- an accepted call may change all
+pub may_change : {A : Type 0} (r : Result (Unit {0}) Refusal) (old new : A) → r ≡ Ok tt → Unchanged r old new
+may_change (Ok x) old new p = tt
+may_change (Err e) old new p = not_both tt e (sym p)
 
 -- what an accepted call leaves
 pub settles : {X : Type 0} (f : Option Refusal) (s t : X) → verdict f ≡ Ok tt → settle f s t ≡ t

@@ -95,6 +95,8 @@ impl<U: Unit> Unit for Window<U> {
         self.below.load(place, v)
     }
 
+    // In line, since the check of a multiplication reads twice.
+    #[inline(always)]
     fn read(&self, cell: u8) -> Result<U::Value, Refusal>
         ensures value { result ≡ reading (⟦<Self as Unit>⟧.state self.now) cell }
         ensures below { let q = self.now in IfOk result (λ v. reading (U.state q.below) (q.from + cell) ≡ Ok v) }

@@ -1,6 +1,6 @@
 //! Tables of inputs with what they must be answered.
-use banks::Bank;
-use kinds::{Count, Counts, Kind};
+use banks::CountsBank;
+use kinds::{Count, Kind};
 use methods::{MOST_BYTES, Method, respond};
 use plain_numbers::{Refused, steps};
 use plans::{MOST_STEPS, NO_STEP, Plan, Step};
@@ -177,8 +177,13 @@ fn refusal(n: u64, steps: &[Step]) -> Result<(), Refused> {
 
 #[test]
 fn admits_up_to_128_steps(rt: HostRuntime) {
-    assert_eq!(rt; refusal(129, &counting::<128>()), Ok(()));
-    assert_eq!(rt; refusal(130, &counting::<129>()), Err(Refused(3, 129)));
+    let mut plan = Plan::one();
+    let (kept, refused) = (counting::<128>(), counting::<129>());
+    assert_eq!(rt; plan.admit(129, &kept).map_err(Refused::from), Ok(()));
+    assert_eq!(rt;
+        plan.admit(130, &refused).map_err(Refused::from),
+        Err(Refused(3, 129))
+    );
 }
 
 // The steps 1 2 3 4 7 14, and then 23 from a_j and a_k.
@@ -210,7 +215,7 @@ fn refuses_each_pair_that_does_not_make_the_value(rt: HostRuntime) {
 }
 
 // Plans 23 by the power tree, 1 2 3 5 10 13 23, and raises the count 1 to it on the bank.
-fn raise_to_23(bank: &mut Bank<Counts>) -> Result<u64, Refused> {
+fn raise_to_23(bank: &mut CountsBank) -> Result<u64, Refused> {
     let mut table = [NO_STEP; MOST_STEPS];
     let mut parents = [0u16; PARENTS];
     let length = Method::Tree.plan(23, &mut table, &mut parents)?;
@@ -222,7 +227,7 @@ fn raise_to_23(bank: &mut Bank<Counts>) -> Result<u64, Refused> {
 // The plan has 6 steps: an allowance of 6 is spent.
 #[test]
 fn runs_on_an_allowance_of_the_length(rt: HostRuntime) {
-    let mut bank = Bank::new(Counts, 6);
+    let mut bank = CountsBank::new(6);
     assert_eq!(rt; raise_to_23(&mut bank), Ok(23), "the power");
     assert_eq!(rt; bank.allowance(), 0, "the allowance");
 }
@@ -230,7 +235,7 @@ fn runs_on_an_allowance_of_the_length(rt: HostRuntime) {
 // An allowance of 5 is refused before anything is loaded.
 #[test]
 fn refuses_a_run_beyond_the_allowance(rt: HostRuntime) {
-    let mut bank = Bank::new(Counts, 5);
+    let mut bank = CountsBank::new(5);
     assert_eq!(rt; raise_to_23(&mut bank), Err(Refused(24, 6)), "the run");
     assert_eq!(rt; bank.allowance(), 5, "the allowance");
     let held = bank.read(0).map_err(Refused::from);

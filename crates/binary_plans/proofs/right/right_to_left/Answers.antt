@@ -8,7 +8,7 @@ use Rattle.binary_plans.proofs.right.right_to_left.Goals as goal
 pub returns : goal.returns
 returns c =
     let n = c.args.n in
-    let ok = c.in_ok-check_exponent.ensures in
+    let ok = c.in_ok-check_request.ensures in
     let e = c.write_plan.ensures in
     let one = top_one n ok.positive (omega (arith, ok.bounded)) in
     let r = finished c.in-Some.ensures.cases e.count e.within e.after ok.positive ok.bounded refl (right_all_length n one) (right_all_chain n ok.positive ok.bounded one) in

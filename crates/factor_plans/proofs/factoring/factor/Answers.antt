@@ -1,5 +1,4 @@
 use Rattle.std.proofs.Common.{◌≡◌, true, leb, rules, refl, arith}
-use Rattle.std.proofs.lemmas.Bool.{le-leb}
 use Rattle.planning.proofs.Finishing.{finished}
 use Rattle.factor_plans.proofs.Factors.{factor_rule, factor_room}
 use Rattle.factor_plans.proofs.Scaled.{factor_chain}
@@ -8,10 +7,10 @@ use Rattle.factor_plans.proofs.factoring.factor.Goals as goal
 pub returns : goal.returns
 returns c =
     let n = c.args.n in
-    let ok = c.in_ok-check_exponent.ensures in
+    let ok = c.in_ok-check_request.ensures in
     let e = c.write_plan.ensures in
     let s = factor_room n ok.positive ok.bounded in
-    let allowed : leb n 4294967295 ≡ true = le-leb _ _ (omega arith) in
+    let allowed : leb n 4294967295 ≡ true = ok.allowed in
     let r = finished c.in-Some.ensures.cases e.count e.within e.after ok.positive ok.bounded allowed refl (λ _. factor_chain n ok.positive ok.bounded) in
     record {
       answer = search (rules, r.answer);

@@ -1,5 +1,5 @@
 use Rattle.std.proofs.Common.{◌≡◌, ◌≤◌, ◌++◌, true, leb, List, length, drop, refl, ap, ◌∙◌, arith, take-append-drop}
-use Rattle.std.proofs.lemmas.Bool.{le-leb}
+use Rattle.std.proofs.lemmas.Bool.{leb-true}
 use Rattle.plans.specs.declared.step.Step.{Step}
 use Rattle.planning.proofs.Finishing.{finished}
 use Rattle.power_tree.proofs.Plans.{tree_stands}
@@ -15,10 +15,10 @@ returns-in_default-first_chunk_mut-clause-after c =
 pub returns : goal.returns
 returns c =
     let n = c.args.n in
-    let ok = c.in_ok-check_exponent.ensures in
+    let ok = c.in_ok-check_request.ensures in
     let w = c.write_plan.ensures in
-    let s = tree_stands n ok.positive (omega arith) in
-    let allowed : leb n 1024 ≡ true = le-leb _ _ (omega arith) in
+    let s = tree_stands n ok.positive (leb-true _ _ ok.allowed) in
+    let allowed : leb n 1024 ≡ true = ok.allowed in
     let wide : 1025 ≤ length c.args.parents.now = c.in-Some-first_chunk_mut.ensures.cases.enough in
     let r = finished c.in-Some.ensures.cases w.count (omega (arith, w.count, s.chain.short)) w.after ok.positive ok.bounded allowed refl (λ _. s.chain) in
     record {
