@@ -1,6 +1,8 @@
 //! The parts of a plan: the list 1, 2, 3 and on, the doublings for a digit, and all the steps for a digit.
 ghost use Rattle.std.specs.Prelude.{◌≡◌, ◌+◌, ◌-◌, ◌*◌, ◌^◌, ◌<◌, ◌≤◌, length};
 ghost use Rattle.std.proofs.lemmas.List.Edits.{sets};
+ghost use Rattle.planning.specs.Planning.{step};
+ghost use Rattle.planning.specs.Steps.{Pushed};
 ghost use Rattle.digit_plans.specs.Digits.{count_from, doubles, one_digit};
 
 use crate::widths::Width;
@@ -28,9 +30,24 @@ pub(crate) fn write_list(steps: &mut StepWriter<'_>, last: u64)
     ensures count { steps.new.len ≡ last - 1 }
     ensures after { steps.new.table.now ≡ sets steps.old.table.now 0 (count_from (last - 1) 0) }
 {
-    let mut at = Reached::ONE;
-    for _value in 1..last {
-        at = steps.add(at, Reached::ONE).unwrap();
+    for value in 1..last {
+        steps.push((value - 1) as u16, 0, value + 1).unwrap();
+    }
+}
+
+// Writes the step that makes this value of the values number j and k, for which there is room. Answers the value with its number.
+// The writer's `add` would also ask whether the sum fits, which it always does here.
+fn write_value(steps: &mut StepWriter<'_>, j: u16, k: u16, value: u64) -> Reached
+    requires room { steps.old.len < 128 }
+    ensures same_table { steps.new.table.ghost_name ≡ steps.old.table.ghost_name }
+    ensures written { Pushed steps.old steps.new (step j k value) }
+    ensures number { result.number ≡ steps.new.len }
+    ensures value { result.value ≡ value }
+{
+    steps.push(j, k, value).unwrap();
+    Reached {
+        number: steps.len() as u16,
+        value,
     }
 }
 
@@ -53,7 +70,7 @@ fn write_doubles(steps: &mut StepWriter<'_>, width: Width, from: Reached) -> Rea
         source = if twice < m {
             listed(twice)
         } else {
-            steps.add(source, source).unwrap()
+            write_value(steps, source.number, source.number, twice)
         };
     }
     source
@@ -80,5 +97,10 @@ pub(crate) fn write_digit(
     if digit == 0 {
         return shifted;
     }
-    steps.add(shifted, listed(digit)).unwrap()
+    write_value(
+        steps,
+        shifted.number,
+        listed(digit).number,
+        shifted.value + digit,
+    )
 }

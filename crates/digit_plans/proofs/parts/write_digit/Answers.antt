@@ -1,5 +1,4 @@
 use Rattle.std.proofs.Common.{◌≡◌, ◌+◌, ◌*◌, ◌^◌, ◌∙◌, arith}
-use Rattle.planning.proofs.Writing.{added}
 use Rattle.digit_plans.proofs.DigitLoop.{digit_none, digit_some}
 use Rattle.digit_plans.proofs.parts.write_digit.Goals as goal
 
@@ -12,8 +11,7 @@ returns-then-digit-eq0 c =
 pub returns : goal.returns
 returns c =
     let d = c.write_doubles-shifted.ensures in
-    let e = c.listed.ensures in
-    let a = added c.unwrap.ensures c.add.ensures.written c.add.ensures.made in
-    let s : c.write_doubles-shifted.result.value + c.listed.result.value ≡ c.args.from.value * 2 ^ c.args.width.bits + c.args.digit = omega (arith, d.value, e.value) in
-    let r = digit_some _ c.args.digit _ _ _ _ d.count d.after c.if-digit-eq0.false _ s in
-    record { same_table = c.add.ensures.same_table ∙ d.same_table; count = a.len ∙ r.0; after = a.table ∙ rw (d.number, e.number) r.1; number = a.number; value = a.value ∙ s }
+    let e = c.write_value.ensures in
+    let sum : c.write_doubles-shifted.result.value + c.args.digit ≡ c.args.from.value * 2 ^ c.args.width.bits + c.args.digit = omega (arith, d.value) in
+    let r = digit_some _ c.args.digit _ _ _ _ d.count d.after c.if-digit-eq0.false _ sum in
+    record { same_table = e.same_table ∙ d.same_table; count = e.written.len ∙ r.0; after = e.written.table ∙ rw (d.number, c.listed.ensures.number) r.1; number = e.number; value = e.value ∙ sum }

@@ -1,6 +1,6 @@
 use Rattle.std.proofs.Common.{ap, ◌∙◌, arith}
 use Rattle.planning.specs.declared.steps.StepWriter.{StepWriter}
-use Rattle.planning.proofs.Writing.{table_of, len_of, number_of, value_of, added}
+use Rattle.planning.proofs.Writing.{table_of, len_of, number_of, value_of}
 use Rattle.digit_plans.proofs.Doubling.{doubling_low, doubling_high, doubling_done}
 use Rattle.digit_plans.proofs.parts.write_doubles.Goals as goal
 use Rattle.digit_plans.proofs.parts.write_doubles.Goals.{then-twice-m, else-twice-m}
@@ -17,9 +17,9 @@ loop-bit-preserved c =
             doubling_low more g.1 _ _ _ _ (ap table_of w.steps-is) (ap len_of w.steps-is) (ap number_of w.source-is ∙ e.number) (ap value_of w.source-is ∙ e.value) (omega (arith, w.if-twice-m.true, m.is)),
           )
       | else-twice-m w ↦
-          let e = added w.unwrap-source.ensures w.add.ensures.written w.add.ensures.made in (
-            ap (λ (x : StepWriter). x.table.ghost_name) w.steps-is ∙ w.add.ensures.same_table ∙ g.0,
-            doubling_high more g.1 _ _ _ _ (ap table_of w.steps-is ∙ e.table) (ap len_of w.steps-is ∙ e.len) (ap number_of w.source-is ∙ e.number ∙ e.len) (ap value_of w.source-is ∙ e.value) (omega (arith, w.if-twice-m.false, m.is)),
+          let e = w.write_value-source.ensures in (
+            ap (λ (x : StepWriter). x.table.ghost_name) w.steps-is ∙ e.same_table ∙ g.0,
+            doubling_high more g.1 _ _ _ _ (ap table_of w.steps-is ∙ e.written.table) (ap len_of w.steps-is ∙ e.written.len) (ap number_of w.source-is ∙ e.number ∙ e.written.len) (ap value_of w.source-is ∙ e.value) (omega (arith, w.if-twice-m.false, m.is)),
           )
     ]
 

@@ -1,24 +1,24 @@
 use Rattle.std.proofs.Common.{◌≡◌, ◌+◌, ◌-◌, ◌<◌, ◌≤◌, sym, ◌∙◌, arith}
-use Rattle.planning.proofs.Writing.{added}
+use Rattle.planning.specs.Planning.{step}
+use Rattle.planning.specs.Steps.{Pushed}
 use Rattle.digit_plans.proofs.Counting.{count_turn, count_done}
 use Rattle.digit_plans.proofs.parts.write_list.Goals as goal
 
 pub loop-value-preserved : goal.loop-value-preserved
 loop-value-preserved c =
     let g = c.loop-value.invariant in
-    let d = added c.unwrap-at.ensures c.add.ensures.written c.add.ensures.made in
     let len = c.loop-value.steps.len in
-    let more : len < c.args.last - 1 = omega (arith, g.3, c.loop-value-test.true) in
-    let sum : c.loop-value.at.value + 1 ≡ len + 2 = omega (arith, g.2, g.3) in (
-      c.add.ensures.same_table ∙ g.0,
-      d.number,
-      omega (arith, d.value, g.2),
-      omega (arith, d.len, g.3),
-      rw (d.table, d.len, g.1, sum) (sym (count_turn _ _ _ more) ∙ g.4),
+    let w : Pushed c.loop-value.steps c.push.new.self (step (c.loop-value.value - 1) 0 (c.loop-value.value + 1)) = rw c.unwrap.ensures at c.push.ensures.written in
+    let more : len < c.args.last - 1 = omega (arith, g.1, c.loop-value-test.true) in
+    let number : c.loop-value.value - 1 ≡ len = omega (arith, g.1) in
+    let sum : c.loop-value.value + 1 ≡ len + 2 = omega (arith, g.1) in (
+      c.push.ensures.same_table ∙ g.0,
+      omega (arith, w.len, g.1),
+      rw (w.table, w.len, number, sum) (sym (count_turn _ _ _ more) ∙ g.2),
     )
 
 pub returns-clause-after : goal.returns-clause-after
 returns-clause-after c =
     let g = c.loop-value.invariant in
-    let done : c.args.last - 1 ≤ c.loop-value.steps.len = omega (arith, g.3, c.loop-value-test.false) in
-    sym (count_done _ _ _ done) ∙ g.4
+    let done : c.args.last - 1 ≤ c.loop-value.steps.len = omega (arith, g.1, c.loop-value-test.false) in
+    sym (count_done _ _ _ done) ∙ g.2
