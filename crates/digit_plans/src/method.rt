@@ -10,7 +10,7 @@ use planning::{StepWriter, check_request};
 use plans::{MOST_STEPS, Step};
 use refusals::Refusal;
 
-// Writes the plan. Answers how many steps it has. It is kept out of its callers: in the exported plan_checksum its loops took a tenth longer.
+// Writes the plan. Answers how many steps it has. It is kept out of its callers: in line, the benchmark's plans took a tenth longer.
 #[inline(never)]
 fn write_plan(n: u64, width: Width, places: &mut [Step; MOST_STEPS]) -> usize
     requires positive { 1 ≤ n }

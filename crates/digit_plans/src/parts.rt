@@ -35,8 +35,8 @@ pub(crate) fn write_list(steps: &mut StepWriter<'_>, last: u64)
     }
 }
 
-// Writes the step that makes this value of the values number j and k, for which there is room. Answers the value with its number.
-// The writer's `add` would also ask whether the sum fits, which it always does here.
+// Writes the step that cites j and k and makes this value, for which there is room. Answers the value with its number.
+// Callers have worked the sum out, and it fits: the writer's `add` would do and ask so again.
 fn write_value(steps: &mut StepWriter<'_>, j: u16, k: u16, value: u64) -> Reached
     requires room { steps.old.len < 128 }
     ensures same_table { steps.new.table.ghost_name ≡ steps.old.table.ghost_name }
