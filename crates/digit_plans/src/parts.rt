@@ -21,22 +21,8 @@ pub(crate) fn listed(value: u64) -> Reached
     }
 }
 
-// Writes the list up to `last`: each value is made from the one before and a_0.
-pub(crate) fn write_list(steps: &mut StepWriter<'_>, last: u64)
-    requires first { steps.old.len ≡ 0 }
-    requires low { 1 ≤ last }
-    requires high { last < 32 }
-    ensures same_table { steps.new.table.ghost_name ≡ steps.old.table.ghost_name }
-    ensures count { steps.new.len ≡ last - 1 }
-    ensures after { steps.new.table.now ≡ sets steps.old.table.now 0 (count_from (last - 1) 0) }
-{
-    for value in 1..last {
-        steps.push((value - 1) as u16, 0, value + 1).unwrap();
-    }
-}
-
 // Writes the step that cites j and k and makes this value, for which there is room. Answers the value with its number.
-// Callers have worked the sum out, and it fits: the writer's `add` would do and ask so again.
+// Callers have worked the sum out and know that it fits; the writer's `add` would do both again.
 fn write_value(steps: &mut StepWriter<'_>, j: u16, k: u16, value: u64) -> Reached
     requires room { steps.old.len < 128 }
     ensures same_table { steps.new.table.ghost_name ≡ steps.old.table.ghost_name }
@@ -48,6 +34,20 @@ fn write_value(steps: &mut StepWriter<'_>, j: u16, k: u16, value: u64) -> Reache
     Reached {
         number: steps.len() as u16,
         value,
+    }
+}
+
+// Writes the list up to `last`: each value is made from the one before and a_0.
+pub(crate) fn write_list(steps: &mut StepWriter<'_>, last: u64)
+    requires first { steps.old.len ≡ 0 }
+    requires low { 1 ≤ last }
+    requires high { last < 32 }
+    ensures same_table { steps.new.table.ghost_name ≡ steps.old.table.ghost_name }
+    ensures count { steps.new.len ≡ last - 1 }
+    ensures after { steps.new.table.now ≡ sets steps.old.table.now 0 (count_from (last - 1) 0) }
+{
+    for value in 1..last {
+        write_value(steps, (value - 1) as u16, 0, value + 1);
     }
 }
 

@@ -1,6 +1,4 @@
 use Rattle.std.proofs.Common.{◌≡◌, ◌+◌, ◌-◌, ◌<◌, ◌≤◌, sym, ◌∙◌, arith}
-use Rattle.planning.specs.Planning.{step}
-use Rattle.planning.specs.Steps.{Pushed}
 use Rattle.digit_plans.proofs.Counting.{count_turn, count_done}
 use Rattle.digit_plans.proofs.parts.write_list.Goals as goal
 
@@ -8,13 +6,13 @@ pub loop-value-preserved : goal.loop-value-preserved
 loop-value-preserved c =
     let g = c.loop-value.invariant in
     let len = c.loop-value.steps.len in
-    let w : Pushed c.loop-value.steps c.push.new.self (step (c.loop-value.value - 1) 0 (c.loop-value.value + 1)) = rw c.unwrap.ensures at c.push.ensures.written in
+    let e = c.write_value.ensures in
     let more : len < c.args.last - 1 = omega (arith, g.1, c.loop-value-test.true) in
     let number : c.loop-value.value - 1 ≡ len = omega (arith, g.1) in
     let sum : c.loop-value.value + 1 ≡ len + 2 = omega (arith, g.1) in (
-      c.push.ensures.same_table ∙ g.0,
-      omega (arith, w.len, g.1),
-      rw (w.table, w.len, number, sum) (sym (count_turn _ _ _ more) ∙ g.2),
+      e.same_table ∙ g.0,
+      omega (arith, e.written.len, g.1),
+      rw (e.written.table, e.written.len, number, sum) (sym (count_turn _ _ _ more) ∙ g.2),
     )
 
 pub returns-clause-after : goal.returns-clause-after
